@@ -1,0 +1,26 @@
+-- `words::bit32` meets its contract. Assumes nothing.
+use mathlib.Core.Path.{ap, sym}
+use Prim.Native.Nat.{ℕ, _/_, _^_}
+use lib.Dec.{eqb}
+use lib.Bits.{and-mask}
+use Rattle.words.specs.Word.{bit, odd}
+use Rattle.words.proofs.Bits.{bit-above}
+use borrow.Author.Needs.{needs}
+use Rattle.words.proofs.bit32.Statement.{statement}
+use Rattle.words.proofs.bit32.Tie as tie
+
+cast-result : tie.Need-cast-result
+cast-result c = search needs
+
+shr-result : tie.Need-shr-result
+shr-result c = search needs
+
+returns : tie.Need-returns
+unfolding bit odd
+returns c = ap (λ (x : ℕ). eqb x 1) (and-mask (c .before .args .x / 2 ^ c .before .args .k) 1)
+
+returns-2 : tie.Need-returns-2
+returns-2 c = sym (bit-above 32 (c .before .args .k) (c .before .args .x) (c .before .fits .x .fits) (c .if1 .left))
+
+pub bit32-spec : {M : Type 1} → statement M
+bit32-spec = tie.close (tie.spec cast-result shr-result returns returns-2)
