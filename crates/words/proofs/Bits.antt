@@ -5,13 +5,14 @@ use mathlib.Core.Bool.{Bool, true, false, not, _&&_, _||_}
 use Prim.Native.Nat.{ℕ, zero, suc, _+_, _*_, _/_, _%_, _^_, _≤_, _<_, min, max}
 use native.Mathlib.Nat.{mod-lt, div-one, div-eq-of-lt, div-add-mod', pow-suc, mul-div-cancel, mul-mod-left, le-of-suc-le-suc, not-suc-le-zero, lt-of-le-of-lt}
 use native.Mathlib.Numerals.{add-one, one-add}
+use native.Mathlib.Decide.{decLt}
 use native.Mathlib.Omega.{arith}
 use lib.Dec.{eqb, eqb·zero-suc, eqb·suc-zero, eqb·suc-suc, lit<}
 use lib.Arith.{digits-mod, lt-one}
 use lib.Pow.{shr-shr, pow-mono, pow-pos, shr-lt}
 use lib.Bits.{and-le-r, and-mask, or-lt, bitAnd, bitOr, bitXor, differ, and-step, or-step, xor-step, and-shr, or-shr, xor-shr}
 use borrow.Author.Tests.{eqb-true, eq-eqb, ne-eqb}
-use Rattle.words.proofs.Bools.{and-true, same-truth}
+use Rattle.words.proofs.Bools.{clash, and-true, same-truth}
 use Rattle.words.specs.Word.{odd, bit, without, meets}
 
 -- a digit is 0 or 1
@@ -75,6 +76,14 @@ unfolding bit odd
 bit-above n k w h l =
     let small : w < 2 ^ k = omega (arith, pow-mono l) in
     ap odd (div-eq-of-lt small)
+
+-- so its bits are below n
+pub bit-below : (n k w : ℕ) → w < 2 ^ n → bit k w ≡ true → k < n
+bit-below n k w h e = go (decLt k n)
+  where
+    go : Dec (k < n) → k < n
+    go (yes l) = l
+    go (no nl) = clash e (bit-above n k w h (omega arith))
 
 pub bit-zero : (k : ℕ) → bit k 0 ≡ false
 bit-zero k = bit-above 0 k 0 (lit< tt) (omega arith)

@@ -5,3 +5,4 @@ pub mod Steps
 pub mod Counts
 pub mod Orbit
 pub mod Shifts
+pub mod Rounds

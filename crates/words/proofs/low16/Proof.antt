@@ -15,11 +15,11 @@ shl-result : tie.Need-shl-result
 shl-result c = search needs
 
 sub-result : tie.Need-sub-result
-sub-result c = one-shl-pos 16 (c .before .args .n) (c .if1 .taken)
+sub-result c = one-shl-pos 16 (c .before .args .n) (omega arith)
 
 returns : tie.Need-returns
 returns c =
-    one-shl-sub 16 (c .before .args .n) (c .if1 .taken)
+    one-shl-sub 16 (c .before .args .n) (omega arith)
     ∙ ap (λ (k : ℕ). 2 ^ k - 1) (sym (min-eq-left {m = 16} (omega arith)))
 
 returns-2 : tie.Need-returns-2

@@ -1,0 +1,37 @@
+-- What the bits of a read word and of a sensor word are.
+-- Assumes nothing.
+use mathlib.Core.Path.{_≡_, sym, ap, _∙_}
+use mathlib.Core.Bool.{Bool, true, _&&_}
+use Prim.Native.Nat.{ℕ, _^_, _<_}
+use lib.Dec.{ltb}
+use borrow.Author.Tests.{eqb-true, ltb-true, not-false}
+use Rattle.words.specs.Word.{bit}
+use Rattle.words.specs.Loop.{word}
+use Rattle.words.proofs.Bits.{bit-and, bit-zero, bit-below}
+use Rattle.words.proofs.Bools.{and-true}
+use Rattle.words.proofs.Loops.{bit-word, word-lt}
+use Rattle.scan.specs.declared.set.Set.{Set}
+use Rattle.scan.specs.Set.{kind}
+use Rattle.scan.specs.Shape.{isSensor}
+use Rattle.scan.specs.Past.{reading, readingAt, readWord}
+use Rattle.scan.specs.Machine.{isPast, sensorOk}
+
+-- read point k reads what its kind says
+pub read-bit : (s : Set) (output sensor now k : ℕ) → k < s .r → bit k (readWord s output sensor now) ≡ reading output sensor now k (kind s k)
+unfolding readWord readingAt
+read-bit s output sensor now k h = bit-word k (s .r) (readingAt s output sensor now) h
+
+-- a read word has no bit at r or above
+pub read-lt : (s : Set) (output sensor now : ℕ) → readWord s output sensor now < 2 ^ s .r
+unfolding readWord
+read-lt s output sensor now = word-lt (s .r) (readingAt s output sensor now)
+
+-- an allowed sensor word has bits at sensors only
+pub sensor-bits : (s : Set) (now : ℕ) → sensorOk s now ≡ true → (k : ℕ) → bit k now ≡ true → (k < s .r) × (isSensor (kind s k) ≡ true)
+unfolding sensorOk isPast
+sensor-bits s now e k b =
+    let t = and-true (ltb now (2 ^ s .r)) _ e in
+    let h = bit-below (s .r) k now (ltb-true now (2 ^ s .r) (t .0)) b in
+    let clear = sym (bit-and k now (word (s .r) (isPast s))) ∙ ap (bit k) (eqb-true _ 0 (t .1)) ∙ bit-zero k in
+    let past = ap (λ (x : Bool). x && bit k (word (s .r) (isPast s))) (sym b) ∙ clear in
+    (h, not-false (isSensor (kind s k)) (sym (bit-word k (s .r) (isPast s) h) ∙ past))

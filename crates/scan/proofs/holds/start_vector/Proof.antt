@@ -1,0 +1,15 @@
+-- `scan::holds::start_vector` meets its contract. Assumes nothing.
+use Rattle.scan.specs.Holds.{startFrom}
+use borrow.Author.Needs.{needs}
+use Rattle.scan.proofs.holds.start_vector.Statement.{statement}
+use Rattle.scan.proofs.holds.start_vector.Tie as tie
+
+without16-requires : tie.Need-without16-requires
+without16-requires c κs = search needs
+
+returns : tie.Need-returns
+unfolding startFrom
+returns c = cc
+
+pub start-vector-spec : {M : Type 1} → statement M
+start-vector-spec = tie.close (tie.spec without16-requires returns)

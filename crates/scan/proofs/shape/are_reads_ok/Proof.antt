@@ -1,0 +1,56 @@
+-- `scan::shape::are_reads_ok` meets its contract. The loop's invariant: `ok` tells whether the places before k are right. Assumes nothing.
+use Prim.Native.Nat.{_-_}
+use Rattle.scan.specs.Shape.{readPlace}
+use Rattle.words.proofs.Rounds.{Passed, passed-none, passed-one, passed-all}
+use borrow.Author.Needs.{needs}
+use Rattle.scan.proofs.shape.are_reads_ok.Statement.{statement}
+use Rattle.scan.proofs.shape.are_reads_ok.Tie as tie
+
+abbrev Inv-loop : tie.InvT-loop
+Inv-loop reads r n ok₀ k₀ ok k = Passed 16 (readPlace reads r n) ok k
+
+abbrev μ-loop : tie.MeasureT-loop
+μ-loop reads r n ok₀ k₀ ok k = 16 - k
+
+loop-holds : tie.Need-loop-holds Inv-loop μ-loop
+loop-holds c = passed-none 16 _
+
+is-read-place-ok-requires : tie.Need-is-read-place-ok-requires Inv-loop μ-loop
+is-read-place-ok-requires c κs = search needs
+
+both-requires : tie.Need-both-requires Inv-loop μ-loop
+both-requires c κs = search needs
+
+add-k : tie.Need-add-k Inv-loop μ-loop
+add-k c = search needs
+
+loop-less : tie.Need-loop-less Inv-loop μ-loop
+loop-less c = search needs
+
+loop-again : tie.Need-loop-again Inv-loop μ-loop
+loop-again c =
+    let p = c .before in
+    let t = p .before in
+    let l = t .before .loop in
+    let a = t .before .before .args in
+    passed-one 16 (readPlace (a .reads) (a .r) (a .n)) (l .k) (l .ok) (p .is-read-place-ok .result) (c .both .result) (l .inv) (t .loop-test .taken) (p .is-read-place-ok .ensures) (c .both .ensures)
+
+returns : tie.Need-returns Inv-loop μ-loop
+returns c =
+    let l = c .before .loop in
+    let a = c .before .before .args in
+    passed-all 16 (readPlace (a .reads) (a .r) (a .n)) (l .k) (l .ok) (l .inv) (c .loop-test .left)
+
+pub are-reads-ok-spec : {M : Type 1} → statement M
+are-reads-ok-spec =
+    tie.close
+    (tie.spec
+    Inv-loop
+    μ-loop
+    loop-holds
+    is-read-place-ok-requires
+    both-requires
+    add-k
+    loop-less
+    loop-again
+    returns)

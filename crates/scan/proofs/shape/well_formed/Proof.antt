@@ -1,0 +1,72 @@
+-- `scan::shape::well_formed` meets its contract. Assumes nothing.
+use mathlib.Core.Path.{_≡_, sym, _∙_}
+use mathlib.Core.Bool.{true}
+use lib.ListN.{length}
+use Rattle.words.specs.Loop.{every}
+use Rattle.scan.specs.Shape.{countTests}
+use Rattle.scan.proofs.Shapes.{mapped-long, counts-told, bad-counts, set-tests}
+use borrow.Author.Needs.{needs}
+use Rattle.scan.proofs.shape.well_formed.Statement.{statement}
+use Rattle.scan.proofs.shape.well_formed.Tie as tie
+
+long-reads : (c : tie.Start) → length (c .args .set .reads) ≡ 16
+long-reads c = search mapped-long
+
+long-outputs : (c : tie.Start) → length (c .args .set .outputs) ≡ 12
+long-outputs c = search mapped-long
+
+long-constraints : (c : tie.Start) → length (c .args .set .constraints) ≡ 64
+long-constraints c = search mapped-long
+
+-- past the first test
+counted : (c : tie.Then1) → every (countTests (c .before .before .args .set .r) (c .before .before .args .set .n) (c .before .before .args .set .m)) ≡ true
+counted c = sym (c .before .are-counts-ok .ensures) ∙ c .if1 .taken
+
+are-counts-ok-requires : tie.Need-are-counts-ok-requires
+are-counts-ok-requires c κs = search needs
+
+are-reads-ok-requires : tie.Need-are-reads-ok-requires
+are-reads-ok-requires c κs = search needs
+
+are-outputs-ok-requires : tie.Need-are-outputs-ok-requires
+are-outputs-ok-requires c κs =
+    let t = c .before .before .before in
+    let s = t .before .before .args .set in
+    counts-told (s .r) (s .n) (s .m) (counted t) .0
+
+are-constraints-ok-requires : tie.Need-are-constraints-ok-requires
+are-constraints-ok-requires c κs = search needs
+
+both-requires : tie.Need-both-requires
+both-requires c κs = search needs
+
+both-requires-2 : tie.Need-both-requires-2
+both-requires-2 c κs = search needs
+
+returns : tie.Need-returns
+returns c =
+    let b = c .before in
+    let k = b .before in
+    let o = k .before in
+    let p = o .before in
+    let t = p .before .before .before in
+    let z = t .before .before in
+    set-tests (z .args .set) (p .are-reads-ok .result) (o .are-outputs-ok .result) (k .are-constraints-ok .result) (b .both .result) (c .both2 .result)
+    (counted t) (long-reads z) (long-outputs z) (long-constraints z) (p .are-reads-ok .ensures) (o .are-outputs-ok .ensures) (k .are-constraints-ok .ensures)
+    (b .both .ensures) (c .both2 .ensures)
+
+returns-2 : tie.Need-returns-2
+returns-2 c = bad-counts (c .before .before .args .set) (sym (c .before .are-counts-ok .ensures) ∙ c .if1 .left)
+
+pub well-formed-spec : {M : Type 1} → statement M
+well-formed-spec =
+    tie.close
+    (tie.spec
+    are-counts-ok-requires
+    are-reads-ok-requires
+    are-outputs-ok-requires
+    are-constraints-ok-requires
+    both-requires
+    both-requires-2
+    returns
+    returns-2)

@@ -1,0 +1,24 @@
+-- Document 01's number of each answer, 0 for one that is no refusal, with the answer's values behind it.
+-- Assumes nothing.
+use Prim.Native.Nat.{ℕ}
+use mathlib.Core.List.{List, [], _∷_}
+use Rattle.scan.specs.declared.machine.ScanAnswer.{ScanAnswer}
+use Rattle.scan.specs.declared.machine.ScanAnswer.the-variants.{Sent, BadState, BadSensor, BadRequest, Unsafe}
+use Rattle.scan.specs.declared.finding.Found.{Found}
+use Rattle.scan.specs.declared.finding.Found.the-variants.{Read, Output, BadSet, BadLength, Unknown}
+
+-- of a scan: the vector sent and the passes made, or the refusal
+abbrev pub scanTold : ScanAnswer → List ℕ
+scanTold (Sent vector passes) = 0 ∷ vector ∷ passes ∷ []
+scanTold BadState = 30 ∷ []
+scanTold BadSensor = 31 ∷ []
+scanTold BadRequest = 32 ∷ []
+scanTold Unsafe = 33 ∷ []
+
+-- of finding: 0 for a read point or 1 for an output, and the point's number; or the refusal
+abbrev pub findTold : Found → List ℕ
+findTold (Read k) = 0 ∷ 0 ∷ k ∷ []
+findTold (Output k) = 0 ∷ 1 ∷ k ∷ []
+findTold BadSet = 20 ∷ []
+findTold BadLength = 40 ∷ []
+findTold Unknown = 41 ∷ []

@@ -1,0 +1,146 @@
+// Names of points: eight byte places by value, compared byte by byte.
+use super::choice::both;
+use super::set::MOST_OUTPUTS;
+use super::set::MOST_READS;
+use super::set::NAME_PLACES;
+use super::set::OutputPoint;
+use super::set::ReadPoint;
+ghost use mathlib.Core.Path.{_≡_};
+ghost use mathlib.Core.Bool.{cond};
+ghost use Prim.Native.Nat.{_≤_};
+ghost use lib.Dec.{eqb};
+ghost use lib.ListN.{length};
+ghost use Rattle.words.specs.Loop.{all};
+ghost use Rattle.scan.specs.Names.{nameByte, allNameBytes, padded, zeroAt, nameLength, nameOk, nameZero, sameName, firstRead, firstOutput};
+
+// Whether a name may have the byte.
+pub fn is_name_byte(b: u8) -> bool
+    ensures { λ r. ⌜ r ≡ nameByte b ⌝ }
+{
+    both(0x21 <= b, b <= 0x7E)
+}
+
+// Whether a name may have each of the bytes.
+pub fn are_name_bytes(bytes: &[u8]) -> bool
+    ensures { λ r. ⌜ r ≡ allNameBytes (now (bytes .entry)) ⌝ }
+{
+    let mut ok = true;
+    let mut k: usize = 0;
+    while k < bytes.len() {
+        ok = both(ok, is_name_byte(bytes[k]));
+        k = k + 1;
+    }
+    ok
+}
+
+// The bytes with zeros up to eight places.
+pub fn pad(bytes: &[u8]) -> [u8; NAME_PLACES]
+    requires { ⌜ length (now bytes) ≤ 8 ⌝ }
+    ensures { λ r. ⌜ r ≡ padded (now (bytes .entry)) ⌝ }
+{
+    let mut name = [0u8; NAME_PLACES];
+    let mut k: usize = 0;
+    while k < bytes.len() {
+        name[k] = bytes[k];
+        k = k + 1;
+    }
+    name
+}
+
+// The number of bytes before the first zero.
+fn name_length(name: [u8; NAME_PLACES]) -> usize
+    ensures { λ r. ⌜ r ≡ nameLength name ⌝ }
+{
+    let mut k: usize = 0;
+    while k < NAME_PLACES {
+        if name[k] == 0 {
+            return k;
+        }
+        k = k + 1;
+    }
+    k
+}
+
+// A name byte before the name's end, a zero after it.
+fn is_place_ok(inside: bool, b: u8) -> bool
+    ensures { λ r. ⌜ r ≡ cond inside (nameByte b) (eqb b 0) ⌝ }
+{
+    if inside { is_name_byte(b) } else { b == 0 }
+}
+
+// Whether the places hold 1 to 8 name bytes and then zeros.
+pub fn is_name(name: [u8; NAME_PLACES]) -> bool
+    ensures { λ r. ⌜ r ≡ nameOk name ⌝ }
+{
+    let end = name_length(name);
+    let mut ok = true;
+    let mut k: usize = 0;
+    while k < NAME_PLACES {
+        ok = both(ok, is_place_ok(k < end, name[k]));
+        k = k + 1;
+    }
+    both(0 < end, ok)
+}
+
+// Whether all places are zero.
+pub fn is_zero_name(name: [u8; NAME_PLACES]) -> bool
+    ensures { λ r. ⌜ r ≡ nameZero name ⌝ }
+{
+    let mut ok = true;
+    let mut k: usize = 0;
+    while k < NAME_PLACES {
+        ok = both(ok, name[k] == 0);
+        k = k + 1;
+    }
+    ok
+}
+
+fn is_same_name(a: [u8; NAME_PLACES], b: [u8; NAME_PLACES]) -> bool
+    ensures { λ r. ⌜ r ≡ sameName a b ⌝ }
+{
+    let mut same = true;
+    let mut k: usize = 0;
+    while k < NAME_PLACES {
+        same = both(same, a[k] == b[k]);
+        k = k + 1;
+    }
+    same
+}
+
+// The first of the first i read points that has the name, or i.
+pub fn first_read(reads: [ReadPoint; MOST_READS], i: usize, name: [u8; NAME_PLACES]) -> usize
+    requires { ⌜ i ≤ 16 ⌝ }
+    ensures { λ r. ⌜ r ≡ firstRead reads i name ⌝ }
+{
+    let mut k: usize = 0;
+    while k < i {
+        let p = reads[k];
+        let own = p.name;
+        if is_same_name(own, name) {
+            return k;
+        }
+        k = k + 1;
+    }
+    i
+}
+
+// The first of the first j outputs that has the name, or j.
+pub fn first_output(
+    outputs: [OutputPoint; MOST_OUTPUTS],
+    j: usize,
+    name: [u8; NAME_PLACES],
+) -> usize
+    requires { ⌜ j ≤ 12 ⌝ }
+    ensures { λ r. ⌜ r ≡ firstOutput outputs j name ⌝ }
+{
+    let mut k: usize = 0;
+    while k < j {
+        let p = outputs[k];
+        let own = p.name;
+        if is_same_name(own, name) {
+            return k;
+        }
+        k = k + 1;
+    }
+    j
+}

@@ -1,0 +1,53 @@
+// Which outputs of a constraint yield: of those not held, those of the lowest rank.
+use super::choice::both;
+use super::choice::keep16;
+use super::choice::least16;
+use super::choice::pick16;
+use super::set::Constraint;
+ghost use mathlib.Core.Path.{_≡_};
+ghost use mathlib.Core.Bool.{cond};
+ghost use Prim.Native.Nat.{_≤_, _<_, _^_};
+ghost use Rattle.scan.specs.Pass.{lowest, hasRank, yielding};
+
+// Above every rank.
+const NO_RANK: u16 = 256;
+
+// The lowest rank at the outputs of `own`, of n: 256 if there are none.
+fn lowest_rank(c: Constraint, own: u16, n: usize) -> u16
+    requires { ⌜ n ≤ 12 ⌝ }
+    ensures { λ r. ⌜ r ≡ lowest c own n ⌝ }
+{
+    let mut low: u16 = NO_RANK;
+    let mut k: usize = 0;
+    while k < n {
+        low = pick16(words::bit16(k, own), least16(low, c.ranks[k] as u16), low);
+        k = k + 1;
+    }
+    low
+}
+
+// The word of output k if it is one of `own` and its rank is `low`, else 0.
+fn yield_at(c: Constraint, own: u16, low: u16, k: usize) -> u16
+    requires { ⌜ k < 12 ⌝ }
+    ensures { λ r. ⌜ r ≡ cond (hasRank c own low k) (2 ^ k) 0 ⌝ }
+{
+    keep16(
+        both(words::bit16(k, own), c.ranks[k] as u16 == low),
+        1u16 << k,
+    )
+}
+
+// The outputs of `own`, of n, of the lowest rank among them.
+pub fn yielding_of(n: usize, c: Constraint, own: u16) -> u16
+    requires { ⌜ n ≤ 12 ⌝ }
+    ensures { λ r. ⌜ r ≡ yielding n c own ⌝ }
+{
+    let low = lowest_rank(c, own, n);
+    let mut out: u16 = 0;
+    let mut k: usize = 0;
+    while k < n {
+        out = out | yield_at(c, own, low, k);
+        k = k + 1;
+    }
+    out
+}

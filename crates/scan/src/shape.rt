@@ -1,0 +1,268 @@
+// When a set is well formed: when some file loads to it.
+use super::choice::both;
+use super::choice::either;
+use super::names::first_output;
+use super::names::first_read;
+use super::names::is_name;
+use super::names::is_zero_name;
+use super::set::Constraint;
+use super::set::Kind;
+use super::set::MOST_CONSTRAINTS;
+use super::set::MOST_OUTPUTS;
+use super::set::MOST_POINTS;
+use super::set::MOST_READS;
+use super::set::OutputPoint;
+use super::set::ReadPoint;
+use super::set::Set;
+ghost use mathlib.Core.Path.{_≡_};
+ghost use mathlib.Core.Bool.{cond};
+ghost use Prim.Native.Nat.{_≤_, _<_};
+ghost use Rattle.words.specs.Loop.{every, all};
+ghost use Rattle.scan.specs.Set.{readPoint, outputPoint};
+ghost use Rattle.scan.specs.Shape.{countTests, isSensor, kindOk, readOk, readZero, readPlace, outputOk, outputPlace, rankOk, rankZero, constraintTests, constraintZero, constraintPlace, wellFormed};
+
+fn are_counts_ok(r: usize, n: usize, m: usize) -> bool
+    ensures { λ x. ⌜ x ≡ every (countTests r n m) ⌝ }
+{
+    if r <= MOST_READS {
+        if n <= MOST_OUTPUTS {
+            return both(1 <= n, both(r + n <= MOST_POINTS, m <= MOST_CONSTRAINTS));
+        }
+    }
+    false
+}
+
+pub fn is_sensor(kind: Kind) -> bool
+    ensures { λ r. ⌜ r ≡ isSensor kind ⌝ }
+{
+    match kind {
+        Kind::Sensor => true,
+        Kind::PastOutput(_) => false,
+        Kind::PastSensor(_) => false,
+    }
+}
+
+// Whether read point k, of a set of n outputs, may have the kind.
+fn is_kind_ok(reads: [ReadPoint; MOST_READS], n: usize, k: usize, kind: Kind) -> bool
+    requires { ⌜ k < 16 ⌝ }
+    ensures { λ r. ⌜ r ≡ kindOk reads n k kind ⌝ }
+{
+    match kind {
+        Kind::Sensor => true,
+        Kind::PastOutput(i) => (i as usize) < n,
+        Kind::PastSensor(i) => {
+            let at = i as usize;
+            if at < k {
+                let p = reads[at];
+                let q = p.kind;
+                return is_sensor(q);
+            }
+            false
+        }
+    }
+}
+
+fn is_read_ok(reads: [ReadPoint; MOST_READS], n: usize, k: usize) -> bool
+    requires { ⌜ k < 16 ⌝ }
+    ensures { λ r. ⌜ r ≡ readOk reads n k ⌝ }
+{
+    let p = reads[k];
+    let kind = p.kind;
+    let name = p.name;
+    both(
+        is_kind_ok(reads, n, k, kind),
+        both(is_name(name), first_read(reads, k, name) == k),
+    )
+}
+
+fn is_read_zero(p: ReadPoint) -> bool
+    ensures { λ r. ⌜ r ≡ readZero p ⌝ }
+{
+    let kind = p.kind;
+    let name = p.name;
+    both(is_sensor(kind), is_zero_name(name))
+}
+
+fn is_read_place_ok(reads: [ReadPoint; MOST_READS], r: usize, n: usize, k: usize) -> bool
+    requires { ⌜ k < 16 ⌝ }
+    ensures { λ x. ⌜ x ≡ readPlace reads r n k ⌝ }
+{
+    if k < r {
+        is_read_ok(reads, n, k)
+    } else {
+        let p = reads[k];
+        is_read_zero(p)
+    }
+}
+
+fn are_reads_ok(reads: [ReadPoint; MOST_READS], r: usize, n: usize) -> bool
+    ensures { λ x. ⌜ x ≡ all 16 (readPlace reads r n) ⌝ }
+{
+    let mut ok = true;
+    let mut k: usize = 0;
+    while k < MOST_READS {
+        ok = both(ok, is_read_place_ok(reads, r, n, k));
+        k = k + 1;
+    }
+    ok
+}
+
+fn is_output_ok(
+    reads: [ReadPoint; MOST_READS],
+    r: usize,
+    outputs: [OutputPoint; MOST_OUTPUTS],
+    j: usize,
+) -> bool
+    requires { ⌜ (r ≤ 16) × (j < 12) ⌝ }
+    ensures { λ x. ⌜ x ≡ outputOk reads r outputs j ⌝ }
+{
+    let p = outputs[j];
+    let name = p.name;
+    both(
+        is_name(name),
+        both(
+            first_read(reads, r, name) == r,
+            first_output(outputs, j, name) == j,
+        ),
+    )
+}
+
+fn is_output_place_ok(
+    reads: [ReadPoint; MOST_READS],
+    r: usize,
+    outputs: [OutputPoint; MOST_OUTPUTS],
+    n: usize,
+    j: usize,
+) -> bool
+    requires { ⌜ (r ≤ 16) × (j < 12) ⌝ }
+    ensures { λ x. ⌜ x ≡ outputPlace reads r outputs n j ⌝ }
+{
+    if j < n {
+        is_output_ok(reads, r, outputs, j)
+    } else {
+        let p = outputs[j];
+        let name = p.name;
+        is_zero_name(name)
+    }
+}
+
+fn are_outputs_ok(
+    reads: [ReadPoint; MOST_READS],
+    r: usize,
+    outputs: [OutputPoint; MOST_OUTPUTS],
+    n: usize,
+) -> bool
+    requires { ⌜ r ≤ 16 ⌝ }
+    ensures { λ x. ⌜ x ≡ all 12 (outputPlace reads r outputs n) ⌝ }
+{
+    let mut ok = true;
+    let mut j: usize = 0;
+    while j < MOST_OUTPUTS {
+        ok = both(ok, is_output_place_ok(reads, r, outputs, n, j));
+        j = j + 1;
+    }
+    ok
+}
+
+// Whether ranks stand only at outputs that the constraint names.
+fn are_ranks_ok(c: Constraint) -> bool
+    ensures { λ r. ⌜ r ≡ all 12 (rankOk c) ⌝ }
+{
+    let named = c.out_plain | c.out_negated;
+    let mut ok = true;
+    let mut k: usize = 0;
+    while k < MOST_OUTPUTS {
+        ok = both(ok, either(words::bit16(k, named), c.ranks[k] == 0));
+        k = k + 1;
+    }
+    ok
+}
+
+// Whether the masks name r read points and n outputs at most, no point both ways, and an output.
+fn is_constraint_ok(r: usize, n: usize, c: Constraint) -> bool
+    ensures { λ x. ⌜ x ≡ every (constraintTests r n c) ⌝ }
+{
+    let reads = both(
+        words::fits32(c.read_plain, r),
+        both(
+            words::fits32(c.read_negated, r),
+            c.read_plain & c.read_negated == 0,
+        ),
+    );
+    let outs = both(
+        words::fits16(c.out_plain, n),
+        both(
+            words::fits16(c.out_negated, n),
+            c.out_plain & c.out_negated == 0,
+        ),
+    );
+    let named = both(0 < c.out_plain | c.out_negated, are_ranks_ok(c));
+    both(reads, both(outs, named))
+}
+
+fn are_ranks_zero(c: Constraint) -> bool
+    ensures { λ r. ⌜ r ≡ all 12 (rankZero c) ⌝ }
+{
+    let mut ok = true;
+    let mut k: usize = 0;
+    while k < MOST_OUTPUTS {
+        ok = both(ok, c.ranks[k] == 0);
+        k = k + 1;
+    }
+    ok
+}
+
+fn is_constraint_zero(c: Constraint) -> bool
+    ensures { λ r. ⌜ r ≡ constraintZero c ⌝ }
+{
+    let reads = both(c.read_plain == 0, c.read_negated == 0);
+    let outs = both(c.out_plain == 0, c.out_negated == 0);
+    both(reads, both(outs, are_ranks_zero(c)))
+}
+
+fn is_constraint_place_ok(used: bool, r: usize, n: usize, c: Constraint) -> bool
+    ensures { λ x. ⌜ x ≡ cond used (every (constraintTests r n c)) (constraintZero c) ⌝ }
+{
+    if used {
+        is_constraint_ok(r, n, c)
+    } else {
+        is_constraint_zero(c)
+    }
+}
+
+fn are_constraints_ok(s: Set) -> bool
+    ensures { λ r. ⌜ r ≡ all 64 (constraintPlace s) ⌝ }
+{
+    let r = s.r;
+    let n = s.n;
+    let m = s.m;
+    let mut ok = true;
+    let mut i: usize = 0;
+    while i < MOST_CONSTRAINTS {
+        let c = s.constraints[i];
+        ok = both(ok, is_constraint_place_ok(i < m, r, n, c));
+        i = i + 1;
+    }
+    ok
+}
+
+// Whether the set is well formed.
+pub fn well_formed(set: Set) -> bool
+    ensures { λ r. ⌜ r ≡ wellFormed set ⌝ }
+{
+    let r = set.r;
+    let n = set.n;
+    let m = set.m;
+    if are_counts_ok(r, n, m) {
+        let reads = set.reads;
+        let outputs = set.outputs;
+        return both(
+            are_reads_ok(reads, r, n),
+            both(
+                are_outputs_ok(reads, r, outputs, n),
+                are_constraints_ok(set),
+            ),
+        );
+    }
+    false
+}
