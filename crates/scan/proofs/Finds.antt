@@ -9,10 +9,12 @@ use lib.ListN.{length}
 use borrow.Author.Tests.{le-leb, lt-leb, lt-ltb, le-ltb}
 use Rattle.words.proofs.Bools.{and-false}
 use Rattle.scan.specs.declared.set.Set.{Set}
-use Rattle.scan.specs.Names.{allNameBytes, padded, firstRead, firstOutput}
+use Rattle.scan.specs.declared.names.NameRead.{NameRead}
+use Rattle.scan.specs.Set.{zeroName}
+use Rattle.scan.specs.Names.{nameRead, lengthOk, allNameBytes, padded, firstRead, firstOutput}
 use Rattle.scan.specs.Shape.{wellFormed}
 use Rattle.scan.specs.declared.finding.Found.the-variants.{Read, Output, BadSet, BadLength, Unknown}
-use Rattle.scan.specs.Finding.{lengthOk, findPadded, findOf}
+use Rattle.scan.specs.Finding.{findPadded, findOf}
 
 module _ (s : Set) (name : List ℕ) (k : ℕ) (here : k ≡ firstRead (s .reads) (s .r) name) where
   pub find-read : k < s .r → Read k ≡ findPadded s name
@@ -53,3 +55,24 @@ module _ (s : Set) (bytes : List ℕ) (formed : wellFormed s ≡ true) where
     pub find-named : allNameBytes bytes ≡ true → findPadded s (padded bytes) ≡ findOf s bytes
     unfolding findOf
     find-named e = sym (rw (formed, fits, e))
+
+-- ---- the name that bytes spell
+
+module _ (bytes : List ℕ) where
+  pub spell-none : lengthOk bytes && allNameBytes bytes ≡ false → record { good = false; name = zeroName } ≡ nameRead bytes
+  unfolding nameRead
+  spell-none e = sym (rw e)
+
+  pub spell-empty : length bytes < 1 → record { good = false; name = zeroName } ≡ nameRead bytes
+  spell-empty h = spell-none (ap (λ (b : Bool). (b && leb (length bytes) 8) && allNameBytes bytes) (lt-leb 1 (length bytes) h))
+
+  pub spell-long : 8 < length bytes → record { good = false; name = zeroName } ≡ nameRead bytes
+  spell-long h =
+      spell-none (ap (λ (b : Bool). b && allNameBytes bytes) (and-false (leb 1 (length bytes)) (leb (length bytes) 8) (lt-leb (length bytes) 8 h)))
+
+  pub spell-strange : allNameBytes bytes ≡ false → record { good = false; name = zeroName } ≡ nameRead bytes
+  spell-strange e = spell-none (and-false (lengthOk bytes) (allNameBytes bytes) e)
+
+  pub spell-name : 1 ≤ length bytes → length bytes ≤ 8 → allNameBytes bytes ≡ true → record { good = true; name = padded bytes } ≡ nameRead bytes
+  unfolding nameRead
+  spell-name low high e = sym (rw (le-leb 1 (length bytes) low, le-leb (length bytes) 8 high, e))

@@ -18,9 +18,9 @@ use Rattle.scan.specs.declared.set.Set.{Set}
 use Rattle.scan.specs.declared.finding.Found.{Found}
 use Rattle.scan.specs.declared.finding.Found.the-variants.{Read, Output, BadSet, BadLength, Unknown}
 use Rattle.scan.specs.Set.{readPoint, outputPoint}
-use Rattle.scan.specs.Names.{nameByte, allNameBytes, padded, zeroAt, nameLength, nameBytes, placeOk, nameOk, sameAt, sameName, readNamed, firstRead, outputNamed, firstOutput}
+use Rattle.scan.specs.Names.{lengthOk, nameByte, allNameBytes, padded, zeroAt, nameLength, nameBytes, placeOk, nameOk, sameAt, sameName, readNamed, firstRead, outputNamed, firstOutput}
 use Rattle.scan.specs.Shape.{wellFormed}
-use Rattle.scan.specs.Finding.{lengthOk, findPadded, findOf}
+use Rattle.scan.specs.Finding.{findPadded, findOf}
 use Rattle.scan.proofs.Finds.{find-read, find-output, find-none, find-bad, find-length, find-strange, find-named}
 use Rattle.scan.proofs.Points.{NameFormed, name-formed, read-formed, output-formed, points-formed}
 

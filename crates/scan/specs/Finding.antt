@@ -9,12 +9,8 @@ use Rattle.scan.specs.declared.set.Set.{Set}
 use Rattle.scan.specs.declared.finding.Found.{Found}
 use Rattle.scan.specs.declared.finding.Found.the-variants.{Read, Output, BadSet, BadLength, Unknown}
 use Rattle.scan.specs.Set.{namePlaces}
-use Rattle.scan.specs.Names.{allNameBytes, padded, firstRead, firstOutput}
+use Rattle.scan.specs.Names.{lengthOk, allNameBytes, padded, firstRead, firstOutput}
 use Rattle.scan.specs.Shape.{wellFormed}
-
--- 1 to 8 bytes
-abbrev pub lengthOk : List ℕ → Bool
-lengthOk bytes = leb 1 (length bytes) && leb (length bytes) namePlaces
 
 -- the point, of the read points and then the outputs, whose eight byte places are these
 unfoldable pub findPadded : Set → List ℕ → Found

@@ -1,14 +1,15 @@
 -- Names: 1 to 8 bytes in eight byte places, unused ones zero, compared byte by byte.
 -- Assumes nothing.
 use Prim.Native.Nat.{ℕ, _-_}
-use mathlib.Core.Bool.{Bool, cond, _&&_}
+use mathlib.Core.Bool.{Bool, true, false, cond, _&&_, _||_}
 use mathlib.Core.List.{List, [], _∷_, _++_}
 use lib.Dec.{eqb, leb, ltb}
 use lib.ListN.{length, getD, take, replicate}
 use Rattle.words.specs.Loop.{every, all, first}
 use Rattle.scan.specs.declared.set.ReadPoint.{ReadPoint}
 use Rattle.scan.specs.declared.set.OutputPoint.{OutputPoint}
-use Rattle.scan.specs.Set.{namePlaces, readPoint, outputPoint}
+use Rattle.scan.specs.declared.names.NameRead.{NameRead}
+use Rattle.scan.specs.Set.{namePlaces, zeroName, readPoint, outputPoint}
 
 -- a byte that a name may have
 unfoldable pub nameByte : ℕ → Bool
@@ -21,6 +22,15 @@ allNameBytes bytes = all (length bytes) (λ k. nameByte (getD bytes k 0))
 -- the bytes with zeros up to eight places
 abbrev pub padded : List ℕ → List ℕ
 padded bytes = bytes ++ replicate (namePlaces - length bytes) 0
+
+-- 1 to 8 bytes
+abbrev pub lengthOk : List ℕ → Bool
+lengthOk bytes = leb 1 (length bytes) && leb (length bytes) namePlaces
+
+-- the name that bytes spell: their eight places, or that they are none, beside zeros
+unfoldable pub nameRead : List ℕ → NameRead
+nameRead bytes =
+    cond (lengthOk bytes && allNameBytes bytes) (record { good = true; name = padded bytes }) (record { good = false; name = zeroName })
 
 -- byte place k is zero
 abbrev pub zeroAt : List ℕ → ℕ → Bool
@@ -69,3 +79,7 @@ outputNamed outputs name k = sameName (outputPoint outputs k .name) name
 -- the first of the first j outputs that has the name, or j
 unfoldable pub firstOutput : List OutputPoint → ℕ → List ℕ → ℕ
 firstOutput outputs j name = first j (outputNamed outputs name)
+
+-- one of the first i read points or of the first j outputs has the name
+unfoldable pub isUsed : List ReadPoint → ℕ → List OutputPoint → ℕ → List ℕ → Bool
+isUsed reads i outputs j name = ltb (firstRead reads i name) i || ltb (firstOutput outputs j name) j

@@ -17,6 +17,9 @@ pub use finding::find;
 pub use machine::ScanAnswer;
 pub use machine::Scanned;
 pub use machine::scan;
+pub use names::NameRead;
+pub use names::is_used;
+pub use names::read_name;
 pub use set::Constraint;
 pub use set::Kind;
 pub use set::OutputPoint;
@@ -24,7 +27,6 @@ pub use set::ReadPoint;
 pub use set::Set;
 pub use set::State;
 pub use set::zero_set;
-pub use set::zero_state;
 pub use shape::well_formed;
 // for the verdict
 pub use holds::start_vector;

@@ -1,17 +1,22 @@
 // Names of points: eight byte places by value, compared byte by byte.
 use super::choice::both;
+use super::choice::either;
+use super::choice::least;
 use super::set::MOST_OUTPUTS;
 use super::set::MOST_READS;
 use super::set::NAME_PLACES;
 use super::set::OutputPoint;
 use super::set::ReadPoint;
+use super::set::Set;
 ghost use mathlib.Core.Path.{_≡_};
-ghost use mathlib.Core.Bool.{cond};
-ghost use Prim.Native.Nat.{_≤_};
+ghost use mathlib.Core.Bool.{false, cond};
+ghost use Prim.Native.Nat.{_≤_, min};
 ghost use lib.Dec.{eqb};
 ghost use lib.ListN.{length};
 ghost use Rattle.words.specs.Loop.{all};
-ghost use Rattle.scan.specs.Names.{nameByte, allNameBytes, padded, zeroAt, nameLength, nameOk, nameZero, sameName, firstRead, firstOutput};
+ghost use Rattle.scan.specs.declared.names.NameRead.{NameRead};
+ghost use Rattle.scan.specs.Set.{zeroName};
+ghost use Rattle.scan.specs.Names.{nameByte, allNameBytes, padded, zeroAt, nameLength, nameRead, nameOk, nameZero, sameName, firstRead, firstOutput, isUsed};
 
 // Whether a name may have the byte.
 pub fn is_name_byte(b: u8) -> bool
@@ -45,6 +50,36 @@ pub fn pad(bytes: &[u8]) -> [u8; NAME_PLACES]
         k = k + 1;
     }
     name
+}
+
+// The eight places of a name, or that bytes are none, beside zeros.
+pub struct NameRead {
+    pub good: bool,
+    pub name: [u8; NAME_PLACES],
+}
+
+fn no_name() -> NameRead
+    ensures { λ r. ⌜ r ≡ record { good = false; name = zeroName } ⌝ }
+{
+    let name = [0u8; NAME_PLACES];
+    NameRead { good: false, name }
+}
+
+// The name that the bytes spell.
+pub fn read_name(bytes: &[u8]) -> NameRead
+    ensures { λ r. ⌜ r ≡ nameRead (now (bytes .entry)) ⌝ }
+{
+    if bytes.len() < 1 {
+        return no_name();
+    }
+    if NAME_PLACES < bytes.len() {
+        return no_name();
+    }
+    if !are_name_bytes(bytes) {
+        return no_name();
+    }
+    let name = pad(bytes);
+    NameRead { good: true, name }
 }
 
 // The number of bytes before the first zero.
@@ -143,4 +178,18 @@ pub fn first_output(
         k = k + 1;
     }
     j
+}
+
+// Whether one of the first i read points or of the first j outputs of the set has the name.
+pub fn is_used(set: Set, i: usize, j: usize, name: [u8; NAME_PLACES]) -> bool
+    ensures { λ r. ⌜ r ≡ isUsed (set .reads) (min i 16) (set .outputs) (min j 12) name ⌝ }
+{
+    let reads = set.reads;
+    let outputs = set.outputs;
+    let a = least(i, MOST_READS);
+    let b = least(j, MOST_OUTPUTS);
+    either(
+        first_read(reads, a, name) < a,
+        first_output(outputs, b, name) < b,
+    )
 }

@@ -1,6 +1,6 @@
 // What a set and a state are made of.
 ghost use mathlib.Core.Path.{_≡_};
-ghost use Rattle.scan.specs.Set.{zeroRead, zeroOutput, zeroConstraint, zeroSet, zeroState};
+ghost use Rattle.scan.specs.Set.{zeroRead, zeroOutput, zeroConstraint, zeroSet};
 
 // The most read points, outputs, read points and outputs together, and constraints; the byte places of a name.
 pub const MOST_READS: usize = 16;
@@ -102,17 +102,5 @@ pub fn zero_set() -> Set
         reads,
         outputs,
         constraints,
-    }
-}
-
-// The state with every field zero.
-pub fn zero_state() -> State
-    ensures { λ r. ⌜ r ≡ zeroState ⌝ }
-{
-    let set = zero_set();
-    State {
-        set,
-        past_output: 0,
-        past_sensor: 0,
     }
 }
