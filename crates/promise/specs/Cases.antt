@@ -1,0 +1,94 @@
+-- The starred cases of document 01's "Tried by hand", and cases for what they leave open, run from the start's definition.
+-- Assumes nothing.
+use Prim.Native.Nat.{ℕ, _^_}
+use mathlib.Core.Path.{_≡_}
+use mathlib.Core.Bool.{cond, _||_}
+use mathlib.Core.List.{List, [], _∷_, map}
+use Rattle.words.specs.Word.{bit}
+use Rattle.scan.specs.declared.set.Set.{Set}
+use Rattle.scan.specs.Set.{zeroSet}
+use Rattle.scan.specs.Holds.{F0, F1, unheldCount}
+use Rattle.scan.specs.History.{Call, run}
+use Rattle.scan.specs.Told.{scanTold}
+use Rattle.scan.specs.Samples.{setP, P, now, nameA, setOf, product, clashing, endless, equalRanks, twoPairs, risingEdge, forcedOn, afterB, threePasses}
+use Rattle.scan.specs.Worked.{call, sent, no}
+use Rattle.verdict.specs.Judge.{judgeOf}
+use Rattle.verdict.specs.Start.{startOf}
+use Rattle.verdict.specs.Told.{verdictTold}
+
+-- a case: what is done, and what is answered, by document 01's numbers
+pub data Case : Type 0 where
+  -- the set is accepted, and scans from its start, one after the other, are answered so
+  scans : Set → List Call → List (List ℕ) → Case
+  -- the verdict and the start, with so many bytes of scratch, say so
+  judged : Set → ℕ → List ℕ → Case
+  -- f at a read word
+  free : Set → ℕ → ℕ → Case
+  -- at the read word w output k is held
+  held : Set → ℕ → ℕ → Case
+
+-- scratch enough
+abbrev pub enough : Set → ℕ
+enough s = 2 ^ s .n
+
+-- what the definitions answer
+abbrev pub answered : Case → List (List ℕ)
+answered (scans s calls told) = verdictTold (startOf s (enough s) .verdict) ∷ map scanTold (run (startOf s (enough s) .state) calls)
+answered (judged s room told) = verdictTold (judgeOf s room) ∷ verdictTold (startOf s room .verdict) ∷ []
+answered (free s w f) = (unheldCount s w ∷ []) ∷ []
+answered (held s w k) = (cond (bit k (F0 s w) || bit k (F1 s w)) 1 0 ∷ []) ∷ []
+
+-- what is to be answered
+abbrev pub expected : Case → List (List ℕ)
+expected (scans s calls told) = (0 ∷ []) ∷ told
+expected (judged s room told) = told ∷ told ∷ []
+expected (free s w f) = (f ∷ []) ∷ []
+expected (held s w k) = (1 ∷ []) ∷ []
+
+-- every case of a list is answered as it is to be
+abbrev pub AllAnswered : List Case → Type 0
+AllAnswered cases = map answered cases ≡ map expected cases
+
+-- all starred cases; A, B, C are outputs 0, 1, 2, and s or "now" is read point 0
+abbrev pub starred : List Case
+starred =
+    -- P, read word 0: request 1 sends 0, 1 pass; 3 sends 3, 0 passes
+    scans P (call 0 1 ∷ call 0 3 ∷ []) (sent 0 1 ∷ sent 3 0 ∷ [])
+    -- P, read word 1: request 3 sends 0, 1 pass, f = 1; request 2 sends 0, 0 passes
+    ∷ scans P (call 1 3 ∷ call 1 2 ∷ []) (sent 0 1 ∷ sent 0 0 ∷ [])
+    ∷ free P 1 1
+    -- P with the two ranks exchanged, word 0: request 1 sends 3, 1 pass; word 1: it sends 0, output 7 being held
+    ∷ scans (setP 1 0) (call 0 1 ∷ call 1 1 ∷ []) (sent 3 1 ∷ sent 0 1 ∷ [])
+    ∷ free (setP 1 0) 1 1
+    ∷ held (setP 1 0) 1 1
+    -- "s and not A", "s and A": 22 at word 1
+    ∷ judged clashing (enough clashing) (22 ∷ 1 ∷ [])
+    -- no sensors; "A and not B", "A and B", B of rank 0 and A of rank 1 in both: 23 at word 0, request 1
+    ∷ judged endless (enough endless) (23 ∷ 0 ∷ 1 ∷ [])
+    -- "A and B", equal ranks: request 3 sends 0, 1 pass
+    ∷ scans equalRanks (call 0 3 ∷ []) (sent 0 1 ∷ [])
+    -- "A and B" (A of lower rank), "A and C" (C of lower rank): request 7 sends 2, 1 pass
+    ∷ scans twoPairs (call 0 7 ∷ []) (sent 2 1 ∷ [])
+    -- read point 1 is the past of sensor 0; "now, not past, A": scans of sensor 1, request 1 from a start send 0, then 1
+    ∷ scans risingEdge (call 1 1 ∷ call 1 1 ∷ []) (sent 0 0 ∷ sent 1 0 ∷ [])
+    ∷ []
+
+-- "s and not A", "s and A" for the second of two sensors: words 2 and 3 have no safe vector
+abbrev pub clashingLater : Set
+clashingLater = setOf (now ∷ record { kind = now .kind; name = 0x74 ∷ 0 ∷ 0 ∷ 0 ∷ 0 ∷ 0 ∷ 0 ∷ 0 ∷ [] } ∷ []) (nameA ∷ []) (product 2 0 0 1 [] ∷ product 2 0 1 0 [] ∷ [])
+
+-- what those leave open
+abbrev pub further : List Case
+further =
+    -- 20 before 21; 21 with one byte too few; exactly enough
+    judged zeroSet 0 (no 20)
+    ∷ judged P 3 (no 21)
+    ∷ judged P 4 (no 0)
+    -- the first of two words that fail
+    ∷ judged clashingLater 2 (22 ∷ 2 ∷ [])
+    -- F1 in the start vector; a refused scan between two others; the past of output 1 at read point 0; all of 2 ^ f - 1 passes
+    ∷ scans forcedOn (call 1 0 ∷ call 0 0 ∷ []) (sent 1 0 ∷ sent 0 0 ∷ [])
+    ∷ scans risingEdge (call 0 1 ∷ call 1 2 ∷ call 1 1 ∷ call 2 1 ∷ call 1 1 ∷ []) (sent 1 0 ∷ no 32 ∷ sent 0 0 ∷ no 31 ∷ sent 1 0 ∷ [])
+    ∷ scans afterB (call 0 1 ∷ call 0 1 ∷ call 0 2 ∷ call 0 1 ∷ []) (sent 1 0 ∷ sent 1 0 ∷ sent 2 0 ∷ sent 0 0 ∷ [])
+    ∷ scans threePasses (call 0 1 ∷ []) (sent 0 3 ∷ [])
+    ∷ []

@@ -1,0 +1,4 @@
+pub mod MarkLaws
+pub mod Verdicts
+pub mod WordMarks
+pub mod JudgeLaws

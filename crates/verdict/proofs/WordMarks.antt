@@ -1,0 +1,172 @@
+-- Marks at one read word of a well-formed set: they are right from the safe vectors on, stay right as requests are settled, and tell which walk
+-- never is safe.
+-- Assumes nothing.
+use mathlib.Core.Path.{_≡_, refl, sym, ap, ap₂, _∙_, subst, fun-ext}
+use mathlib.Core.Bool.{Bool, true, false, cond, not}
+use mathlib.Core.List.{List, [], _∷_, _++_}
+use Prim.Native.Nat.{ℕ, zero, suc, _+_, _^_, _<_}
+use native.Mathlib.Nat.{add-zero}
+use native.Mathlib.Decide.{ℕ-discrete, decLt}
+use native.Mathlib.Omega.{arith}
+use lib.Dec.{eqb}
+use lib.ListN.{length, getD, set, length-set, List·getD-append, List·getD-eq-default}
+use lib.Seq.{getD-set-same, getD-set-other, getD-append-add}
+use lib.Pow.{pow-pos}
+use Rattle.words.specs.Loop.{some, iterate}
+use Rattle.words.proofs.Bools.{by-test, clash}
+use Rattle.words.proofs.Loops.{below-suc, some-at, some-false-at}
+use Rattle.scan.specs.declared.set.Set.{Set}
+use Rattle.scan.specs.Shape.{wellFormed}
+use Rattle.scan.specs.Constraint.{safe}
+use Rattle.scan.specs.declared.table.Table.{Table}
+use Rattle.scan.specs.Holds.{unheldCount, passLimit, startFrom, startVector}
+use Rattle.scan.specs.Table.{tableOf}
+use Rattle.scan.specs.Pass.{pass}
+use Rattle.scan.specs.Walk.{after, Reaches}
+use Rattle.scan.proofs.Masks.{start-lt}
+use Rattle.scan.proofs.Passes.{pass-lt, after-lt}
+use Rattle.scan.proofs.Tables.{safeIn, passIn, table-safe, table-pass, table-start, table-limit}
+use Rattle.scan.proofs.Walks.{ReachesFrom, safe-reaches, meets-reaches, reaches-on, reaches-after, walk-due, walk-never}
+use Rattle.verdict.specs.Judge.{hasVector, isNever, endless}
+use Rattle.verdict.specs.Marks.{marked, markedWhere, comesToMark, pathMarked, settled}
+use Rattle.verdict.proofs.MarkLaws.{where-length}
+
+-- a byte for each vector; a mark says that passes lead to a safe vector; every safe vector is marked
+pub record Ready (s : Set) (w : ℕ) (marks : List ℕ) : Type 0 where
+  pub long : length marks ≡ 2 ^ s .n
+  pub sound : (v : ℕ) → marked marks v ≡ true → ReachesFrom s w v
+  pub complete : (v : ℕ) → v < 2 ^ s .n → safe s w v ≡ true → marked marks v ≡ true
+
+-- ---- the safe vectors
+
+mark-byte : (b : Bool) → eqb (cond b 1 0) 1 ≡ b
+mark-byte true = refl
+mark-byte false = refl
+
+where-marked : (ok : ℕ → Bool) (n v : ℕ) → v < n → marked (markedWhere n ok) v ≡ ok v
+unfolding markedWhere marked
+where-marked ok zero v h = absurd (omega arith)
+where-marked ok (suc n) v h =
+    below-suc (λ (k : ℕ). eqb (getD (markedWhere n ok ++ (cond (ok n) 1 0 ∷ [])) k 0) 1 ≡ ok k) {n = n}
+    (λ k l.
+    ap (λ (x : ℕ). eqb x 1) (List·getD-append (markedWhere n ok) (cond (ok n) 1 0 ∷ []) 0 k (subst (λ (m : ℕ). k < m) (sym (where-length ok n)) l))
+    ∙ where-marked ok n k l)
+    (ap (λ (x : ℕ). eqb x 1)
+    (ap (λ (m : ℕ). getD (markedWhere n ok ++ (cond (ok n) 1 0 ∷ [])) m 0) (sym (add-zero n ∙ refl) ∙ ap (λ (m : ℕ). m + 0) (sym (where-length ok n)))
+    ∙ getD-append-add (markedWhere n ok) (cond (ok n) 1 0 ∷ []) 0 0)
+    ∙ mark-byte (ok n))
+    v h
+
+marked-below : (marks : List ℕ) (v : ℕ) → marked marks v ≡ true → v < length marks
+unfolding marked
+marked-below marks v e = go (decLt v (length marks))
+  where
+    go : Dec (v < length marks) → v < length marks
+    go (yes h) = h
+    go (no nh) = clash e (ap (λ (x : ℕ). eqb x 1) (List·getD-eq-default marks 0 (omega arith)))
+
+module _ (s : Set) (ok : wellFormed s ≡ true) (w : ℕ) where
+  pub ready-safe : Ready s w (markedWhere (2 ^ s .n) (safe s w))
+  ready-safe = record {
+    long = where-length (safe s w) (2 ^ s .n);
+    sound = λ v e.
+        let h = subst (λ (m : ℕ). v < m) (where-length (safe s w) (2 ^ s .n)) (marked-below (markedWhere (2 ^ s .n) (safe s w)) v e) in
+        safe-reaches s w v (sym (where-marked (safe s w) (2 ^ s .n) v h) ∙ e);
+    complete = λ v h e. where-marked (safe s w) (2 ^ s .n) v h ∙ e;
+  }
+
+  -- ---- one mark more, and a path of them
+
+  ready-more : (marks : List ℕ) (v : ℕ) → Ready s w marks → v < 2 ^ s .n → ReachesFrom s w v → Ready s w (set marks v 1)
+  unfolding marked
+  ready-more marks v ready h r = record {
+    long = length-set marks v 1 ∙ ready .long;
+    sound = λ x e. go-sound x e (ℕ-discrete x v);
+    complete = λ x l e. go-complete x l e (ℕ-discrete x v);
+  }
+    where
+      go-sound : (x : ℕ) → marked (set marks v 1) x ≡ true → Dec (x ≡ v) → ReachesFrom s w x
+      go-sound x e (yes q) = subst (ReachesFrom s w) (sym q) r
+      go-sound x e (no nq) = ready .sound x (ap (λ (y : ℕ). eqb y 1) (sym (getD-set-other marks v x 1 0 nq)) ∙ e)
+
+      go-complete : (x : ℕ) → x < 2 ^ s .n → safe s w x ≡ true → Dec (x ≡ v) → marked (set marks v 1) x ≡ true
+      go-complete x l e (yes q) =
+          ap (λ (k : ℕ). eqb (getD (set marks v 1) k 0) 1) q
+          ∙ ap (λ (y : ℕ). eqb y 1) (getD-set-same marks v 1 0 (omega (arith, ready .long)))
+      go-complete x l e (no nq) = ap (λ (y : ℕ). eqb y 1) (getD-set-other marks v x 1 0 nq) ∙ ready .complete x l e
+
+  -- a vector that is not marked is not safe
+  unmarked-unsafe : (marks : List ℕ) → Ready s w marks → (v : ℕ) → v < 2 ^ s .n → marked marks v ≡ false → safe s w v ≡ false
+  unmarked-unsafe marks ready v h e = by-test (safe s w v) (λ t. clash (ready .complete v h t) e) (λ f. f)
+
+  ready-path : (left v : ℕ) (marks : List ℕ) → Ready s w marks → v < 2 ^ s .n → ReachesFrom s w v → Ready s w (pathMarked (pass s w) left v marks)
+  unfolding pathMarked
+  ready-path zero v marks ready h r = ready
+  ready-path (suc left) v marks ready h r =
+      by-test (marked marks v)
+      (λ e. rw e ready)
+      (λ e. rw e (ready-path left (pass s w v) (set marks v 1) (ready-more marks v ready h r) (pass-lt s w v h)
+      (reaches-on s w v (unmarked-unsafe marks ready v h e) r)))
+
+  -- ---- a request
+
+  module _ (marks : List ℕ) (ready : Ready s w marks) (g : ℕ) (fits : g < 2 ^ s .n) where
+    -- the vector after k passes is marked
+    abbrev markedAfter : ℕ → Bool
+    markedAfter k = marked marks (iterate (pass s w) k (startVector s w g))
+
+    comes-reaches : comesToMark (pass s w) marks (passLimit s w) (startVector s w g) ≡ true → Reaches s w g
+    unfolding comesToMark after
+    comes-reaches e =
+        let k = some-at (passLimit s w + 1) markedAfter e in
+        meets-reaches s w g (k .0) (ready .sound (after s w g (k .0)) (k .2))
+
+    not-comes : comesToMark (pass s w) marks (passLimit s w) (startVector s w g) ≡ false → (k : ℕ) → k < 2 ^ unheldCount s w → safe s w (after s w g k) ≡ false
+    unfolding comesToMark after
+    not-comes e k h =
+        unmarked-unsafe marks ready (after s w g k) (after-lt s w ok g fits k)
+        (some-false-at (passLimit s w + 1) markedAfter e k (omega (arith, pow-pos (unheldCount s w))))
+
+    -- the walk comes to a mark exactly when it reaches a safe vector
+    pub comes-endless : comesToMark (pass s w) marks (passLimit s w) (startVector s w g) ≡ not (endless s w g)
+    unfolding endless
+    comes-endless =
+        by-test (comesToMark (pass s w) marks (passLimit s w) (startVector s w g))
+        (λ e. e ∙ sym (ap (λ x. not (isNever x)) (walk-due s ok w g fits (comes-reaches e) .walked)))
+        (λ e. e ∙ sym (ap (λ x. not (isNever x)) (walk-never s w g (not-comes e))))
+
+    pub ready-settled : Ready s w (settled (pass s w) (passLimit s w) (startVector s w g) marks)
+    unfolding settled after
+    ready-settled =
+        by-test (comesToMark (pass s w) marks (passLimit s w) (startVector s w g))
+        (λ e. rw e (ready-path (passLimit s w) (startVector s w g) marks ready (start-lt s w ok g fits) (reaches-after s w g (comes-reaches e))))
+        (λ e. rw e ready)
+
+-- ---- by the table of the read word
+
+module _ (s : Set) (ok : wellFormed s ≡ true) (w : ℕ) (t : Table) (et : t ≡ tableOf s w) where
+  safe-is : safeIn t ≡ safe s w
+  safe-is = fun-ext (λ v. ap (λ (x : Table). safeIn x v) et ∙ table-safe s w ok v)
+
+  pass-is : passIn t ≡ pass s w
+  pass-is = fun-ext (λ v. ap (λ (x : Table). passIn x v) et ∙ table-pass s w ok v)
+
+  -- once the safe vectors are marked, the marks are right, and it is told whether there is a safe vector
+  pub marked-safe : (len : ℕ) (b : Bool) (x : List ℕ) → len ≡ 2 ^ s .n → b ≡ some len (safeIn t) → x ≡ markedWhere len (safeIn t)
+      → (b ≡ hasVector s w) × Ready s w x
+  unfolding hasVector
+  marked-safe len b x el eb ex = (
+    eb ∙ ap₂ some el safe-is,
+    subst (Ready s w) (sym (ex ∙ ap₂ markedWhere el safe-is)) (ready-safe s ok w),
+  )
+
+  -- settling a request tells whether its walk never is safe, and leaves the marks right
+  pub settled-request : (marks : List ℕ) → Ready s w marks → (g : ℕ) → g < 2 ^ s .n → (from : ℕ) → from ≡ startFrom (t .f0) (t .f1) g
+      → (b : Bool) (x : List ℕ) → b ≡ comesToMark (passIn t) marks (t .limit) from → x ≡ settled (passIn t) (t .limit) from marks
+      → (b ≡ not (endless s w g)) × Ready s w x
+  settled-request marks ready g fits from ef b x eb ex =
+      let start : from ≡ startVector s w g = ef ∙ ap (λ (y : Table). startFrom (y .f0) (y .f1) g) et ∙ table-start s w ok g in
+      let limit : t .limit ≡ passLimit s w = ap (λ (y : Table). y .limit) et ∙ table-limit s w ok in (
+        eb ∙ (λ i. comesToMark (pass-is i) marks (limit i) (start i)) ∙ comes-endless s ok w marks ready g fits,
+        subst (Ready s w) (sym (ex ∙ (λ i. settled (pass-is i) (limit i) (start i) marks))) (ready-settled s ok w marks ready g fits),
+      )

@@ -1,0 +1,93 @@
+-- `verdict::verdict::judge` meets its contract. Assumes nothing.
+use mathlib.Core.Path.{_≡_, refl, sym, _∙_}
+use mathlib.Core.Bool.{true}
+use Prim.Native.Nat.{ℕ, _-_, _*_, _%_, _^_, _≤_}
+use native.Mathlib.Nat.{sub-zero}
+use native.Mathlib.Omega.{arith}
+use lib.ListN.{length}
+use lib.Seq.{length-take-le}
+use borrow.Author.Tests.{not-true, not-false}
+use Rattle.words.proofs.Shifts.{one-shl}
+use Rattle.scan.specs.Shape.{wellFormed}
+use Rattle.scan.proofs.Formed.{counts}
+use Rattle.verdict.proofs.JudgeLaws.{bad-set, short-scratch, judged, later-kept}
+use borrow.Author.Needs.{needs}
+use Rattle.verdict.proofs.verdict.judge.Statement.{statement}
+use Rattle.verdict.proofs.verdict.judge.Tie as tie
+
+-- past the first test the set is well formed, and 2 ^ n is counted
+formed : (c : tie.Else1) → wellFormed (c .before .before .before .args .set) ≡ true
+formed c = sym (c .before .well-formed .ensures) ∙ not-false _ (c .if1 .left)
+
+well-formed-requires : tie.Need-well-formed-requires
+well-formed-requires c κs = search needs
+
+returns : tie.Need-returns
+returns c =
+    let a = c .before .before .before .args in
+    (bad-set (a .set) (length (a .scratch .now)) (sym (c .before .well-formed .ensures) ∙ not-true _ (c .if1 .taken)), refl)
+
+shl-vectors : tie.Need-shl-vectors
+shl-vectors c = omega (arith, counts _ (formed (c .before)) .n-le)
+
+-- the bytes that are lent: `1 << n`, which is 2 ^ n
+abbrev shifted : ℕ → ℕ
+shifted n = (1 * 2 ^ n) % 2 ^ 64
+
+vectors-is : (c : tie.Else1) → shifted (c .before .before .before .args .set .n) ≡ 2 ^ c .before .before .before .args .set .n
+vectors-is c = one-shl 64 _ (omega (arith, counts _ (formed c) .n-le))
+
+part-is : (c : tie.Else1) → shifted (c .before .before .before .args .set .n) - 0 ≡ 2 ^ c .before .before .before .args .set .n
+part-is c = sub-zero (shifted (c .before .before .before .args .set .n)) ∙ vectors-is c
+
+returns-2 : tie.Need-returns-2
+returns-2 c =
+    let e = c .before .before in
+    let a = e .before .before .before .args in
+    (short-scratch (a .set) (length (a .scratch .now)) (formed e) (omega (arith, vectors-is e, c .if2 .taken)), refl)
+
+sub-judge-words : tie.Need-sub-judge-words
+sub-judge-words c = search needs
+
+part-judge-words-start : tie.Need-part-judge-words-start
+part-judge-words-start c = search needs
+
+part-judge-words-end : tie.Need-part-judge-words-end
+part-judge-words-end c = search needs
+
+judge-words-requires : tie.Need-judge-words-requires
+judge-words-requires c κs =
+    let e = c .before .before .before in
+    let a = e .before .before .before .args in
+    let room : shifted (a .set .n) - 0 ≤ length (a .scratch .now) = omega (arith, c .before .if2 .left) in
+    (formed e, length-take-le (shifted (a .set .n) - 0) (a .scratch .now) room ∙ part-is e)
+
+same-length : tie.Need-same-length
+same-length c = search needs
+
+returns-3 : tie.Need-returns-3
+returns-3 c =
+    let j = c .before .before in
+    let f = j .before .before in
+    let e = f .before .before in
+    let a = e .before .before .before .args in
+    let room : 2 ^ a .set .n ≤ length (a .scratch .now) = omega (arith, vectors-is e, f .if2 .left) in (
+      j .judge-words .ensures ∙ judged (a .set) (length (a .scratch .now)) (formed e) room,
+      later-kept (a .set) (length (a .scratch .now)) (formed e) room (shifted (a .set .n) - 0) (part-is e) (j .judge-words .last .1 .0) (a .scratch .now)
+          (j .judge-words .kept .1 .0 ∙ length-take-le (shifted (a .set .n) - 0) (a .scratch .now) (omega (arith, f .if2 .left))),
+    )
+
+pub judge-spec : {M : Type 1} → statement M
+judge-spec =
+    tie.close
+    (tie.spec
+    well-formed-requires
+    returns
+    shl-vectors
+    returns-2
+    sub-judge-words
+    part-judge-words-start
+    part-judge-words-end
+    judge-words-requires
+    same-length
+    returns-3)

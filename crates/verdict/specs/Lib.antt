@@ -1,0 +1,5 @@
+pub mod Judge
+pub mod Start
+pub mod Told
+pub mod Meaning
+pub mod Marks

@@ -1,0 +1,47 @@
+-- What each verdict on a well-formed set, given scratch enough, means: no bound on the passes of a walk stands here.
+-- Assumes nothing.
+use mathlib.Core.Path.{_≡_}
+use mathlib.Core.Bool.{true}
+use mathlib.Core.Logic.{_⊎_}
+use Prim.Native.Nat.{ℕ, _^_, _<_}
+use Rattle.scan.specs.declared.set.Set.{Set}
+use Rattle.scan.specs.Constraint.{safe}
+use Rattle.scan.specs.Walk.{Reaches}
+use Rattle.verdict.specs.declared.verdict.Verdict.{Verdict}
+use Rattle.verdict.specs.declared.verdict.Verdict.the-variants.{Accepted, BadSet, ShortScratch, NoVector, NoEnd}
+
+-- some output vector leaves every constraint false
+abbrev pub HasSafe : Set → ℕ → Type 0
+HasSafe s w = (v : ℕ) × (v < 2 ^ s .n) × (safe s w v ≡ true)
+
+-- at the read word w some vector is safe, and the walk from every request reaches a safe one
+pub record Good (s : Set) (w : ℕ) : Type 0 where
+  pub vector : HasSafe s w
+  pub ends : (request : ℕ) → request < 2 ^ s .n → Reaches s w request
+
+-- w is the first word that is not good, and has no safe vector
+pub record FirstWithout (s : Set) (w : ℕ) : Type 0 where
+  pub within : w < 2 ^ s .r
+  pub before : (u : ℕ) → u < w → Good s u
+  pub none : ¬ HasSafe s w
+
+-- w is the first word that is not good; it has a safe vector, and g is the first request whose walk never reaches one
+pub record FirstEndless (s : Set) (w g : ℕ) : Type 0 where
+  pub within : w < 2 ^ s .r
+  pub before : (u : ℕ) → u < w → Good s u
+  pub vector : HasSafe s w
+  pub fits : g < 2 ^ s .n
+  pub ends : (request : ℕ) → request < g → Reaches s w request
+  pub never : ¬ Reaches s w g
+
+-- what a verdict says of the set; with a well-formed set and scratch enough, 20 and 21 are never right
+abbrev pub Means : Set → Verdict → Type 0
+Means s Accepted = (w : ℕ) → w < 2 ^ s .r → Good s w
+Means s (NoVector w) = FirstWithout s w
+Means s (NoEnd w g) = FirstEndless s w g
+Means s BadSet = ⊥
+Means s ShortScratch = ⊥
+
+-- for some read word no vector leaves every constraint false, or the walk from some request never reaches one
+abbrev pub Bad : Set → Type 0
+Bad s = (w : ℕ) × (w < 2 ^ s .r) × ((¬ HasSafe s w) ⊎ ((g : ℕ) × (g < 2 ^ s .n) × (¬ Reaches s w g)))

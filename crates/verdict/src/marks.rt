@@ -1,0 +1,140 @@
+// Marks at one read word: a byte of scratch for each vector, 1 where passes from the vector are known to lead to a safe one.
+use scan::is_safe;
+use scan::pass_over;
+ghost use mathlib.Core.Path.{_≡_};
+ghost use mathlib.Core.Bool.{cond, _||_};
+ghost use Prim.Native.Nat.{_≤_};
+ghost use lib.ListN.{length, set};
+ghost use Rattle.words.specs.Loop.{some};
+ghost use Rattle.scan.specs.Table.{safeOver, passOver};
+ghost use Rattle.verdict.specs.Marks.{marked, markedWhere, comesToMark, pathMarked, settled};
+
+const MARK: u8 = 1;
+
+// Whether vector v is marked; one past the scratch is not.
+fn is_marked(marks: &[u8], v: u16) -> bool
+    ensures { λ r. ⌜ r ≡ marked (now (marks .entry)) v ⌝ }
+{
+    let i = v as usize;
+    if i < marks.len() {
+        marks[i] == MARK
+    } else {
+        false
+    }
+}
+
+// Marks vector v, if the scratch has its byte.
+fn put_mark(marks: &mut [u8], v: u16)
+    ensures { λ _. ⌜ now (marks .exit) ≡ set (now (marks .entry)) v 1 ⌝ }
+{
+    let i = v as usize;
+    if i < marks.len() {
+        marks[i] = MARK;
+    }
+}
+
+// The mark of a vector that passed the test, or none.
+fn mark_if(test: bool) -> u8
+    ensures { λ r. ⌜ r ≡ cond test 1 0 ⌝ }
+{
+    if test { MARK } else { 0 }
+}
+
+// Whether one of the two tests passed.
+fn either(a: bool, b: bool) -> bool
+    ensures { λ r. ⌜ r ≡ (a || b) ⌝ }
+{
+    if a { true } else { b }
+}
+
+// Marks the safe vectors and no others; whether there is one.
+pub fn mark_safe<'a>(
+    f0: u16,
+    f1: u16,
+    plain: &'a [u16; 64],
+    named: &'a [u16; 64],
+    count: usize,
+    marks: &mut [u8],
+) -> bool
+    requires { ⌜ length (now marks) ≤ 4096 ⌝ }
+    ensures { λ r. ⌜ r ≡ some (length (now (marks .entry))) (safeOver f0 f1 (now (plain .entry)) (now (named .entry)) count) ⌝ }
+    ensures { λ r. ⌜ now (marks .exit) ≡ markedWhere (length (now (marks .entry))) (safeOver f0 f1 (now (plain .entry)) (now (named .entry)) count) ⌝ }
+{
+    let mut any = false;
+    let mut v: usize = 0;
+    while v < marks.len() {
+        let safe = is_safe(f0, f1, plain, named, count, v as u16);
+        marks[v] = mark_if(safe);
+        any = either(any, safe);
+        v = v + 1;
+    }
+    any
+}
+
+// Whether one of the vectors after 0 to `limit` passes from `from` is marked.
+fn comes_to_mark<'a>(
+    plain: &'a [u16; 64],
+    named: &'a [u16; 64],
+    flip: &'a [u16; 64],
+    count: usize,
+    from: u16,
+    limit: u16,
+    marks: &[u8],
+) -> bool
+    ensures { λ r. ⌜ r ≡ comesToMark (passOver (now (plain .entry)) (now (named .entry)) (now (flip .entry)) count) (now (marks .entry)) limit from ⌝ }
+{
+    let mut v = from;
+    let mut made: u16 = 0;
+    while made < limit {
+        if is_marked(marks, v) {
+            return true;
+        }
+        v = pass_over(plain, named, flip, count, v);
+        made = made + 1;
+    }
+    is_marked(marks, v)
+}
+
+// Marks the vectors from `from` on, up to one that is marked, and at most `limit` of them.
+fn mark_path<'a>(
+    plain: &'a [u16; 64],
+    named: &'a [u16; 64],
+    flip: &'a [u16; 64],
+    count: usize,
+    from: u16,
+    limit: u16,
+    marks: &mut [u8],
+)
+    ensures { λ _. ⌜ now (marks .exit) ≡ pathMarked (passOver (now (plain .entry)) (now (named .entry)) (now (flip .entry)) count) limit from (now (marks .entry)) ⌝ }
+{
+    let mut v = from;
+    let mut made: u16 = 0;
+    while made < limit {
+        if is_marked(marks, v) {
+            return;
+        }
+        put_mark(marks, v);
+        v = pass_over(plain, named, flip, count, v);
+        made = made + 1;
+    }
+}
+
+// Whether the walk from `from` comes to a mark within `limit` passes; its path is then marked.
+pub fn settle<'a>(
+    plain: &'a [u16; 64],
+    named: &'a [u16; 64],
+    flip: &'a [u16; 64],
+    count: usize,
+    from: u16,
+    limit: u16,
+    marks: &mut [u8],
+) -> bool
+    ensures { λ r. ⌜ r ≡ comesToMark (passOver (now (plain .entry)) (now (named .entry)) (now (flip .entry)) count) (now (marks .entry)) limit from ⌝ }
+    ensures { λ r. ⌜ now (marks .exit) ≡ settled (passOver (now (plain .entry)) (now (named .entry)) (now (flip .entry)) count) limit from (now (marks .entry)) ⌝ }
+{
+    if comes_to_mark(plain, named, flip, count, from, limit, marks) {
+        mark_path(plain, named, flip, count, from, limit, marks);
+        return true;
+    }
+    false
+}

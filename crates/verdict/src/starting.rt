@@ -1,0 +1,48 @@
+// The start: the verdict, and a state of the set that it judged.
+use super::verdict::Verdict;
+use super::verdict::judge;
+use scan::Set;
+use scan::State;
+use scan::zero_set;
+ghost use mathlib.Core.Path.{_≡_};
+ghost use lib.ListN.{length, drop};
+ghost use Rattle.scan.specs.Set.{stateOf};
+ghost use Rattle.verdict.specs.Judge.{looseBytes};
+ghost use Rattle.verdict.specs.Start.{startState, startOf};
+
+// The verdict, and the state: with every field zero where the set is rejected.
+pub struct Started {
+    pub verdict: Verdict,
+    pub state: State,
+}
+
+// The state of the set with both pasts 0.
+fn fresh(set: Set) -> State
+    ensures { λ r. ⌜ r ≡ stateOf set 0 0 ⌝ }
+{
+    State {
+        set,
+        past_output: 0,
+        past_sensor: 0,
+    }
+}
+
+// The state that a verdict leads to.
+fn state_of(set: Set, verdict: Verdict) -> State
+    ensures { λ r. ⌜ r ≡ startState set verdict ⌝ }
+{
+    if let Verdict::Accepted = verdict {
+        return fresh(set);
+    }
+    fresh(zero_set())
+}
+
+// The verdict on the set, and its state if it is accepted.
+pub fn start(set: Set, scratch: &mut [u8]) -> Started
+    ensures { λ r. ⌜ r ≡ startOf set (length (now (scratch .entry))) ⌝ }
+    ensures { λ r. ⌜ drop (looseBytes set (length (now (scratch .entry)))) (now (scratch .exit)) ≡ drop (looseBytes set (length (now (scratch .entry)))) (now (scratch .entry)) ⌝ }
+{
+    let verdict = judge(set, scratch);
+    let state = state_of(set, verdict);
+    Started { verdict, state }
+}

@@ -1,0 +1,79 @@
+// The verdict: whether at every read word some vector is safe and every request's walk reaches a safe one.
+use super::marks::mark_safe;
+use super::marks::settle;
+use scan::Set;
+use scan::build;
+use scan::start_vector;
+use scan::well_formed;
+ghost use mathlib.Core.Path.{_≡_};
+ghost use mathlib.Core.Bool.{true};
+ghost use Prim.Native.Nat.{_^_};
+ghost use lib.ListN.{length, drop};
+ghost use Rattle.scan.specs.Shape.{wellFormed};
+ghost use Rattle.verdict.specs.Judge.{judgeWords, judgeOf, looseBytes};
+
+// Accepted, or why not: the first read word that fails and, where it has a safe vector, the first request whose walk never is safe.
+pub enum Verdict {
+    Accepted,
+    BadSet,
+    ShortScratch,
+    NoVector { word: u32 },
+    NoEnd { word: u32, request: u16 },
+}
+
+// The verdict on the words of a well-formed set, with a byte of scratch for each vector.
+fn judge_words(set: Set, marks: &mut [u8]) -> Verdict
+    requires { ⌜ (wellFormed set ≡ true) × (length (now marks) ≡ 2 ^ set .n) ⌝ }
+    ensures { λ r. ⌜ r ≡ judgeWords set ⌝ }
+{
+    let words = 1u32 << set.r;
+    let requests = 1u16 << set.n;
+    let mut any = true;
+    let mut w: u32 = 0;
+    let mut g: u16 = 0;
+    'words: while w < words {
+        let t = build(set, w);
+        let f0 = t.f0;
+        let f1 = t.f1;
+        let limit = t.limit;
+        let count = t.count;
+        any = mark_safe(f0, f1, &t.plain, &t.named, count, &mut *marks);
+        if !any {
+            break 'words;
+        }
+        g = 0;
+        while g < requests {
+            let from = start_vector(f0, f1, g);
+            if !settle(&t.plain, &t.named, &t.flip, count, from, limit, &mut *marks) {
+                break 'words;
+            }
+            g = g + 1;
+        }
+        w = w + 1;
+    }
+    if words <= w {
+        return Verdict::Accepted;
+    }
+    if any {
+        return Verdict::NoEnd {
+            word: w,
+            request: g,
+        };
+    }
+    Verdict::NoVector { word: w }
+}
+
+// The verdict on a set, with scratch of at least 2 ^ n bytes: of those the content afterwards is free, later bytes are untouched.
+pub fn judge(set: Set, scratch: &mut [u8]) -> Verdict
+    ensures { λ r. ⌜ r ≡ judgeOf set (length (now (scratch .entry))) ⌝ }
+    ensures { λ r. ⌜ drop (looseBytes set (length (now (scratch .entry)))) (now (scratch .exit)) ≡ drop (looseBytes set (length (now (scratch .entry)))) (now (scratch .entry)) ⌝ }
+{
+    if !well_formed(set) {
+        return Verdict::BadSet;
+    }
+    let vectors = 1usize << set.n;
+    if scratch.len() < vectors {
+        return Verdict::ShortScratch;
+    }
+    judge_words(set, &mut scratch[0..vectors])
+}
