@@ -1,0 +1,61 @@
+-- A point or constraint that passes the tests of a place beyond the counts is the one of zeros.
+-- Assumes nothing.
+use mathlib.Core.Path.{_≡_, refl, sym, _∙_}
+use mathlib.Core.Bool.{true}
+use mathlib.Core.List.{List, [], _∷_}
+use Prim.Native.Nat.{ℕ, _<_}
+use native.Mathlib.Omega.{arith}
+use lib.Dec.{eqb}
+use lib.ListN.{length, getD, replicate, length-replicate, getD-replicate}
+use lib.Seq.{ext-getD}
+use borrow.Author.Tests.{eqb-true}
+use Rattle.words.specs.Loop.{all}
+use Rattle.words.proofs.Bools.{every-at}
+use Rattle.words.proofs.Loops.{all-at}
+use Rattle.scan.specs.declared.set.Kind.{Kind}
+use Rattle.scan.specs.declared.set.Kind.the-variants.{Sensor, PastOutput, PastSensor}
+use Rattle.scan.specs.declared.set.ReadPoint.{ReadPoint}
+use Rattle.scan.specs.declared.set.OutputPoint.{OutputPoint}
+use Rattle.scan.specs.declared.set.Constraint.{Constraint}
+use Rattle.scan.specs.Set.{zeroRead, zeroOutput, zeroConstraint}
+use Rattle.scan.specs.Names.{zeroAt, nameZero}
+use Rattle.scan.specs.Shape.{isSensor, readZero, rankZero, constraintZero}
+
+-- numbers that are all zero
+zeros : (N : ℕ) (l : List ℕ) → length l ≡ N → ((k : ℕ) → k < N → eqb (getD l k 0) 0 ≡ true) → l ≡ replicate N 0
+zeros N l e z =
+    ext-getD 0 l (replicate N 0) (e ∙ sym (length-replicate N 0))
+    (λ k h. let w : k < N = omega arith in eqb-true (getD l k 0) 0 (z k w) ∙ sym (getD-replicate N k 0 0 w))
+
+name-blank : (name : List ℕ) → nameZero name ≡ true → name ≡ replicate 8 0
+unfolding nameZero
+name-blank name e =
+    let t = every-at (eqb (length name) 8 ∷ all 8 (zeroAt name) ∷ []) e in
+    zeros 8 name (eqb-true (length name) 8 (t 0)) (all-at 8 (zeroAt name) (t 1))
+
+sensor : (k : Kind) → isSensor k ≡ true → k ≡ Sensor
+sensor Sensor e = refl
+sensor (PastOutput j) e = let z : _≡_ {A = ℕ} 0 1 = cc in absurd (omega arith)
+sensor (PastSensor j) e = let z : _≡_ {A = ℕ} 0 1 = cc in absurd (omega arith)
+
+pub read-blank : (p : ReadPoint) → readZero p ≡ true → p ≡ zeroRead
+unfolding readZero
+read-blank p e =
+    let t = every-at (isSensor (p .kind) ∷ nameZero (p .name) ∷ []) e in
+    let k = sensor (p .kind) (t 0) in
+    let n = name-blank (p .name) (t 1) in
+    λ i. record { kind = k i; name = n i }
+
+pub output-blank : (p : OutputPoint) → nameZero (p .name) ≡ true → p ≡ zeroOutput
+output-blank p e = let n = name-blank (p .name) e in λ i. record { name = n i }
+
+pub constraint-blank : (c : Constraint) → constraintZero c ≡ true → c ≡ zeroConstraint
+unfolding constraintZero
+constraint-blank c e =
+    let t = every-at (eqb (c .«read_plain») 0 ∷ eqb (c .«read_negated») 0 ∷ eqb (c .«out_plain») 0 ∷ eqb (c .«out_negated») 0 ∷ eqb (length (c .ranks)) 12 ∷ all 12 (rankZero c) ∷ []) e in
+    let p = eqb-true (c .«read_plain») 0 (t 0) in
+    let q = eqb-true (c .«read_negated») 0 (t 1) in
+    let u = eqb-true (c .«out_plain») 0 (t 2) in
+    let v = eqb-true (c .«out_negated») 0 (t 3) in
+    let k = zeros 12 (c .ranks) (eqb-true (length (c .ranks)) 12 (t 4)) (all-at 12 (rankZero c) (t 5)) in
+    λ i. record { «read_plain» = p i; «read_negated» = q i; «out_plain» = u i; «out_negated» = v i; ranks = k i }

@@ -1,0 +1,194 @@
+-- The fields of constraints and the end: those written are taken, and those taken are the ones that are written.
+-- Assumes nothing.
+use mathlib.Core.Path.{_≡_, refl, sym, _∙_, ap, ap₂}
+use mathlib.Core.Logic.{_⊎_, inl, inr}
+use mathlib.Core.Bool.{Bool, true, false, cond, _&&_}
+use mathlib.Core.List.{List, [], _∷_, _++_}
+use Prim.Native.Nat.{ℕ, suc, _+_, _-_, _*_, _%_, _≤_, _<_}
+use native.Mathlib.Omega.{arith}
+use lib.Dec.{ltb, leb, eqb}
+use lib.ListN.{length, drop, set, length-append, length-drop, drop-of-length-le}
+use borrow.Author.Tests.{le-leb, lt-leb, leb-false, eqb-true, eq-eqb, le-ltb, ltb-false}
+use Rattle.words.specs.Word.{bit}
+use Rattle.words.specs.Loop.{every}
+use Rattle.words.proofs.Bits.{bit-above}
+use Rattle.scan.specs.declared.set.Constraint.{Constraint}
+use Rattle.scan.specs.declared.set.ReadPoint.{ReadPoint}
+use Rattle.scan.specs.declared.set.OutputPoint.{OutputPoint}
+use Rattle.scan.specs.declared.set.Set.{Set}
+use Rattle.scan.specs.Set.{zeroConstraint, noConstraint}
+use Rattle.scan.specs.Shape.{constraintTests}
+use Rattle.scan.proofs.Formed.{Masks, constraint-masks}
+use Rattle.setfile.specs.declared.header.Header.{Header}
+use Rattle.setfile.specs.declared.header.Header.the-variants.{Refused as Stopped, Field}
+use Rattle.setfile.specs.declared.literal.Literals.{Literals}
+use Rattle.setfile.specs.declared.literal.Taken.{Taken}
+use Rattle.setfile.specs.declared.literal.Taken.the-variants.{Refused as Failed, Next}
+use Rattle.setfile.specs.declared.loader.Progress.the-variants.{At}
+use Rattle.setfile.specs.Bytes.{Bytes}
+use Rattle.setfile.specs.Header.{headerOf, bodyOf, fitsTable}
+use Rattle.setfile.specs.Literal.{literalsFrom, literalsOf}
+use Rattle.setfile.specs.Load.{refusal, goingOn, andThen, constraintDone, constraintGiven, constraintAt, endAt, constraintsGiven, constraintsFrom}
+use Rattle.setfile.specs.Write.{fieldOf, readLiteral, outputLiteral, joined, literalBody}
+use Rattle.setfile.proofs.Places.{mask}
+use Rattle.setfile.proofs.Joins.{worth, told, literal, joined-long}
+use Rattle.setfile.proofs.Marks.{size}
+use Rattle.setfile.proofs.FineBits.{Fine, fine}
+use Rattle.setfile.proofs.LiteralsBack.{literals-back}
+use Rattle.setfile.proofs.LiteralsTaken.{literals-taken}
+use Rattle.setfile.proofs.Fields.{body-back, field-back, table-bounds, found, due-is}
+use Rattle.setfile.proofs.Runs.{Run, Moved}
+
+-- ---- how long a body is
+
+two-bytes : (o p q : Bool) (k x : ℕ) → (length (told o p q k x) ≤ 2) × (length (told o p q k x) % 2 ≡ 0)
+two-bytes o true q k x = (omega arith, refl)
+two-bytes o false true k x = (omega arith, refl)
+two-bytes o false false k x = (omega arith, refl)
+
+no-literals : (r n next : ℕ) → literalsOf r n [] .taken ≡ Next next → ⊥
+unfolding literalsFrom
+no-literals r n next e = let z : _≡_ {A = ℕ} 0 1 = cc in omega arith
+
+not-empty : (r n : ℕ) (c : Constraint) (body : List ℕ) → (next : ℕ) × (literalsOf r n body ≡ record { taken = Next next; made = c }) → 1 ≤ length body
+not-empty r n c [] p = absurd (no-literals r n (p .0) (ap (λ (x : Literals). x .taken) (p .1)))
+not-empty r n c (x ∷ xs) p = omega arith
+
+-- A well-formed constraint's body has a length of the table.
+pub body-fits : (r n : ℕ) (c : Constraint) → r ≤ 16 → n ≤ 12 → r + n ≤ 24 → Masks r n c → fitsTable 4 (length (literalBody c)) ≡ true
+unfolding literalBody readLiteral outputLiteral
+body-fits r n c hr hn hs m =
+    let reads = joined 16 (literal c false) in
+    let outs = joined 12 (literal c true) in
+    let a = long false 16 in
+    let b = long true 12 in
+    let l = length-append reads outs in
+    let some : 1 ≤ length (reads ++ outs) = not-empty r n c (reads ++ outs) (literals-back r n c hr hn m) in
+    simp (
+      le-leb 2 (length (reads ++ outs)) (omega (arith, l, a, b, some)),
+      le-leb (length (reads ++ outs)) 48 (omega (arith, l, a, b)),
+      eq-eqb (length (reads ++ outs) % 2) 0 (omega (arith, l, a, b)),
+    )
+  where
+    f : Fine r n c
+    f = fine r n c m
+
+    long : (o : Bool) (N : ℕ) → (length (joined N (literal c o)) ≤ 2 * N) × (length (joined N (literal c o)) ≤ 2 * size r n o) × (length (joined N (literal c o)) % 2 ≡ 0)
+    long o N =
+        joined-long (literal c o) (size r n o) N (λ k. two-bytes o (bit k (mask o false c)) (bit k (mask o true c)) k (worth o c k))
+        (λ k h. ap₂ (λ (p q : Bool). told o p q k (worth o c k)) (bit-above (size r n o) k (mask o false c) (f .small o false) h) (bit-above (size r n o) k (mask o true c) (f .small o true) h))
+
+-- ---- one field
+
+-- the set with these constraints
+abbrev pub constraintsBase : ℕ → ℕ → List ReadPoint → List OutputPoint → ℕ → List Constraint → Set
+constraintsBase r n reads outputs k l = record { r = r; n = n; m = k; reads = reads; outputs = outputs; constraints = l }
+
+-- fields of constraints; a constraint fits whichever there are before it
+abbrev pub constraintRun : List ℕ → ℕ → ℕ → List ReadPoint → List OutputPoint → Run Constraint
+constraintRun file r n reads outputs = record {
+  tag = 4;
+  body = literalBody;
+  places = 64;
+  blank = zeroConstraint;
+  past = noConstraint;
+  base = constraintsBase r n reads outputs;
+  from = λ left k at s. constraintsFrom file left at s;
+  Fits = λ l k c. every (constraintTests r n c) ≡ true;
+  local = λ a b k c s f. f;
+}
+
+-- the end of the file is here
+abbrev pub EndHere : List ℕ → (ℕ → List Constraint → Set) → ℕ → ℕ → ℕ → List Constraint → Type 0
+EndHere file base left k at l = (drop at file ≡ fieldOf 5 []) × (1 ≤ left) × (constraintsFrom file left at (base k l) ≡ goingOn (length file) (base k l))
+
+module _ (file : List ℕ) (r n : ℕ) (hr : r ≤ 16) (hn : n ≤ 12) (hs : r + n ≤ 24) (reads : List ReadPoint) (outputs : List OutputPoint) where
+  abbrev base : ℕ → List Constraint → Set
+  base = constraintsBase r n reads outputs
+
+  -- A field whose body is that of a well-formed constraint is taken.
+  pub constraint-step : (left k at : ℕ) (l : List Constraint) (c : Constraint) (rest : List ℕ) → k < 64 → every (constraintTests r n c) ≡ true → drop at file ≡ fieldOf 4 (literalBody c) ++ rest
+      → constraintsFrom file (suc left) at (base k l) ≡ constraintsFrom file left (at + 3 + length (literalBody c)) (base (k + 1) (set l k c))
+  unfolding constraintsFrom constraintAt
+  constraint-step left k at l c rest h f e =
+      let body = literalBody c in
+      let len = length body in
+      let m = constraint-masks r n c f in
+      let t = literals-back r n c hr hn m in
+      let hd : headerOf (drop at file) 4 k ≡ Field 4 len = ap (λ (s : List ℕ). headerOf s 4 k) e ∙ field-back 4 body rest 4 k refl (lt-leb 64 k h) (body-fits r n c hr hn hs m) in
+      let bd : bodyOf (drop at file) len ≡ body = ap (λ (s : List ℕ). bodyOf s len) e ∙ body-back 4 body rest in
+      ap (constraintsGiven file at (base k l) (constraintsFrom file left)) hd
+      ∙ ap (λ (x : Literals). andThen (constraintGiven at len (base k l) x) (constraintsFrom file left)) (ap (literalsOf r n) bd ∙ t .1)
+
+  -- The end of the file is found.
+  pub end-back : (left k at : ℕ) (l : List Constraint) → drop at file ≡ fieldOf 5 [] → constraintsFrom file (suc left) at (base k l) ≡ goingOn (length file) (base k l)
+  unfolding constraintsFrom
+  end-back left k at l e =
+      let w : length file - at ≡ 3 = sym (length-drop at file) ∙ ap length e in
+      let n : at + 3 ≡ length file = omega arith in
+      let hd : headerOf (drop at file) 4 k ≡ Field 5 0 = ap (λ (s : List ℕ). headerOf s 4 k) e ∙ field-back 5 [] [] 4 k refl refl refl in
+      ap (constraintsGiven file at (base k l) (constraintsFrom file left)) hd
+      ∙ ap (λ (b : Bool). cond b (refusal 12 (at + 3)) (goingOn (at + 3) (base k l))) (le-ltb (at + 3) (length file) (omega arith))
+      ∙ ap (λ (x : ℕ). goingOn x (base k l)) n
+
+  -- A load does not run out of fields.
+  pub constraints-zero : (last k at : ℕ) (l : List Constraint) → k + 0 ≡ 65 → constraintsFrom file 0 at (base k l) .progress ≡ At last → EndHere file base 0 k at l
+  unfolding constraintsFrom
+  constraints-zero last k at l t e = let z : _≡_ {A = ℕ} 0 1 = cc in absurd (omega arith)
+
+  -- A field that was taken is the end, or the one written for a well-formed constraint.
+  pub constraint-moved : Bytes file → (last left k at : ℕ) (l : List Constraint) → k + suc left ≡ 65 → constraintsFrom file (suc left) at (base k l) .progress ≡ At last
+      → EndHere file base (suc left) k at l ⊎ Moved file (constraintRun file r n reads outputs) left k at l
+  unfolding constraintsFrom constraintAt
+  constraint-moved bytes last left k at l total e = by-header (headerOf (drop at file) 4 k) refl e
+    where
+      Move : Type 0
+      Move = Moved file (constraintRun file r n reads outputs) left k at l
+
+      opens : (x : Header) → headerOf (drop at file) 4 k ≡ x → constraintsFrom file (suc left) at (base k l) ≡ constraintsGiven file at (base k l) (constraintsFrom file left) x
+      opens x t = ap (constraintsGiven file at (base k l) (constraintsFrom file left)) t
+
+      by-end : (tag len : ℕ) → headerOf (drop at file) 4 k ≡ Field tag len → eqb tag 5 ≡ true → (b : Bool) → ltb (at + 3) (length file) ≡ b
+          → cond b (refusal 12 (at + 3)) (goingOn (at + 3) (base k l)) .progress ≡ At last → EndHere file base (suc left) k at l
+      by-end tag len hd s true w u = let z : _≡_ {A = ℕ} 0 1 = cc in absurd (omega arith)
+      by-end tag len hd s false w u =
+          let f = found file at 4 k tag len bytes hd in
+          let five : tag ≡ 5 = eqb-true tag 5 s in
+          let short = table-bounds 5 len (ap (λ (x : ℕ). fitsTable x len) (sym five) ∙ f .table) in
+          let none : len ≡ 0 = omega (arith, short) in
+          let past : length file ≤ at + 3 = ltb-false (at + 3) (length file) w in
+          let here : drop at file ≡ fieldOf 5 [] =
+          f .whole ∙ ap₂ (λ (x y : ℕ). fieldOf x (bodyOf (drop at file) y) ++ drop (at + 3 + len) file) five none
+          ∙ ap (λ (y : List ℕ). fieldOf 5 [] ++ y) (drop-of-length-le file {i = at + 3 + len} (omega arith)) in
+          (here, omega arith, end-back left k at l here)
+
+      by-taken : (tag len : ℕ) → headerOf (drop at file) 4 k ≡ Field tag len → eqb tag 5 ≡ false → (t : Taken) → literalsOf r n (bodyOf (drop at file) len) .taken ≡ t
+          → andThen (constraintDone at len (base k l) t (literalsOf r n (bodyOf (drop at file) len) .made)) (constraintsFrom file left) .progress ≡ At last → Move
+      by-taken tag len hd s (Failed number) t u = let z : _≡_ {A = ℕ} 0 1 = cc in absurd (omega arith)
+      by-taken tag len hd s (Next next) t u =
+          let f = found file at 4 k tag len bytes hd in
+          let b = bodyOf (drop at file) len in
+          let c = literalsOf r n b .made in
+          let four : tag ≡ 4 = due-is 4 tag s (f .awaited) in
+          let g = literals-taken r n b next hr hn (f .bytes) t in
+          let few : (eqb 4 4 && leb 64 k) ≡ false = ap (λ (x : ℕ). eqb x 4 && leb 64 k) (sym four) ∙ f .few in
+          record {
+            point = c;
+            after = at + 3 + len;
+            inside = leb-false 64 k few;
+            fit = g .0;
+            field = f .whole ∙ ap₂ (λ (x : ℕ) (y : List ℕ). fieldOf x y ++ drop (at + 3 + len) file) four (sym (g .1));
+            on =
+                opens (Field tag len) hd
+                ∙ ap (λ (x : Bool). cond x (endAt file at (base k l)) (andThen (constraintDone at len (base k l) (literalsOf r n b .taken) c) (constraintsFrom file left))) s
+                ∙ ap (λ (x : Taken). andThen (constraintDone at len (base k l) x c) (constraintsFrom file left)) t;
+          }
+
+      by-tag : (tag len : ℕ) → headerOf (drop at file) 4 k ≡ Field tag len → (b : Bool) → eqb tag 5 ≡ b
+          → cond b (endAt file at (base k l)) (andThen (constraintAt file at len (base k l)) (constraintsFrom file left)) .progress ≡ At last → EndHere file base (suc left) k at l ⊎ Move
+      by-tag tag len hd true s u = inl (by-end tag len hd s (ltb (at + 3) (length file)) refl u)
+      by-tag tag len hd false s u = inr (by-taken tag len hd s (literalsOf r n (bodyOf (drop at file) len) .taken) refl u)
+
+      by-header : (x : Header) → headerOf (drop at file) 4 k ≡ x → constraintsGiven file at (base k l) (constraintsFrom file left) x .progress ≡ At last → EndHere file base (suc left) k at l ⊎ Move
+      by-header (Stopped number) t u = let z : _≡_ {A = ℕ} 0 1 = cc in absurd (omega arith)
+      by-header (Field tag len) t u = by-tag tag len t (eqb tag 5) refl u

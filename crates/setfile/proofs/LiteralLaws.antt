@@ -1,0 +1,53 @@
+-- Steps of the definitions on literals.
+-- Assumes nothing.
+use mathlib.Core.Path.{_≡_}
+use mathlib.Core.Bool.{Bool, true, false, cond}
+use mathlib.Core.List.{List, _∷_}
+use Prim.Native.Nat.{ℕ, suc, _+_, _≤_, _<_}
+use native.Mathlib.Numerals.{add-one}
+use native.Mathlib.Omega.{arith}
+use lib.Dec.{ltb, eqb}
+use lib.ListN.{length, getD, drop, drop-of-length-le}
+use lib.Seq.{drop-cons}
+use borrow.Author.Tests.{le-leb, lt-leb, ltb-true}
+use Rattle.words.proofs.Bools.{and-true}
+use Rattle.scan.specs.declared.set.Constraint.{Constraint}
+use Rattle.setfile.specs.Literal.{spare, number, isOutput, isLiteral, place, withLiteral, refusedLiterals, lastLiteral, literalsFrom}
+
+pub below-16 : (first : ℕ) → number first < 16
+below-16 first = omega arith
+
+-- the number of an output literal is an output's
+pub output-below : (first rank r n : ℕ) → isLiteral first rank r n ≡ true → isOutput first ≡ true → number first < n
+output-below first rank r n e o = ltb-true _ _ (and-true (eqb (spare first) 0) (ltb (number first) n) (rw o at e) .1)
+
+place-cases : (b : Bool) (k : ℕ) → k < 16 → cond b (16 + k) k < 32
+place-cases true k h = omega arith
+place-cases false k h = omega arith
+
+pub place-below : (first : ℕ) → place first < 32
+place-below first = place-cases (isOutput first) (number first) (below-16 first)
+
+-- the literals from place i of a body on
+module _ (r n next : ℕ) (c : Constraint) (body : List ℕ) (i : ℕ) where
+  pub literals-end : length body ≤ i → literalsFrom r n next c (drop i body) ≡ lastLiteral next c
+  unfolding literalsFrom
+  literals-end h = rw (drop-of-length-le body h)
+
+  module _ (h : i + 1 < length body) where
+    two : drop i body ≡ getD body i 0 ∷ getD body (i + 1) 0 ∷ drop (i + 2) body
+    two =
+        let e : suc (i + 1) ≡ i + 2 = omega arith in
+        rw (drop-cons body i 0 (omega arith), ← add-one i, drop-cons body (i + 1) 0 h, e)
+
+    pub not-literal : isLiteral (getD body i 0) (getD body (i + 1) 0) r n ≡ false → literalsFrom r n next c (drop i body) ≡ refusedLiterals 9
+    unfolding literalsFrom
+    not-literal e = rw (two, e)
+
+    pub not-rising : isLiteral (getD body i 0) (getD body (i + 1) 0) r n ≡ true → place (getD body i 0) < next → literalsFrom r n next c (drop i body) ≡ refusedLiterals 10
+    unfolding literalsFrom
+    not-rising e l = rw (two, e, lt-leb _ _ l)
+
+    pub one-more : isLiteral (getD body i 0) (getD body (i + 1) 0) r n ≡ true → next ≤ place (getD body i 0) → literalsFrom r n next c (drop i body) ≡ literalsFrom r n (place (getD body i 0) + 1) (withLiteral c (getD body i 0) (getD body (i + 1) 0)) (drop (i + 2) body)
+    unfolding literalsFrom
+    one-more e l = rw (two, e, le-leb _ _ l)

@@ -1,0 +1,102 @@
+-- The file of a well-formed set loads to the set.
+-- Assumes nothing.
+use mathlib.Core.Path.{_≡_, refl, _∙_, ap}
+use mathlib.Core.Bool.{Bool, true, cond}
+use mathlib.Core.List.{List, [], _∷_, _++_, append-assoc}
+use Prim.Native.Nat.{ℕ, suc, _+_, _-_, _≤_, _<_}
+use native.Mathlib.Omega.{arith}
+use lib.ListN.{length, getD, take, drop}
+use lib.Dec.{ltb}
+use borrow.Author.Tests.{le-leb, lt-ltb}
+use Rattle.words.specs.Loop.{every}
+use Rattle.words.proofs.Bools.{every-at, cond-true}
+use Rattle.words.proofs.Loops.{all-at}
+use Rattle.scan.specs.declared.set.Set.{Set}
+use Rattle.scan.specs.Set.{zeroSet, zeroConstraint, noConstraint, readPoint, outputPoint, constraint}
+use Rattle.scan.specs.Shape.{countTests, constraintTests, constraintZero, constraintPlace, setTests, wellFormed}
+use Rattle.scan.proofs.Formed.{counts, beyond-zero}
+use Rattle.scan.proofs.Points.{points-formed}
+use Rattle.setfile.specs.declared.loader.LoadAnswer.the-variants.{Loaded}
+use Rattle.setfile.specs.declared.loader.Loading.{Loading}
+use Rattle.setfile.specs.Load.{goingOn, andThen, refusal, withCounts, countsGiven, countsAt, constraintsFrom, afterCounts, afterReads, afterOutputs, answerOf, loadFrom, loadOf}
+use Rattle.setfile.specs.Write.{fieldOf, readBody, outputBody, literalBody, fieldsOf, writeOf}
+use Rattle.setfile.proofs.Fields.{field-back}
+use Rattle.setfile.proofs.PointsFit.{read-fits, output-fits}
+use Rattle.setfile.proofs.Blanks.{read-blank, output-blank, constraint-blank}
+use Rattle.setfile.proofs.Runs.{run-back}
+use Rattle.setfile.proofs.PointRuns.{points-back}
+use Rattle.setfile.proofs.PointKinds.{readPoints, outputsBase, outputPoints}
+use Rattle.setfile.proofs.ConstraintRuns.{constraintRun, constraint-step, end-back}
+
+-- the fields of constraints and the end
+abbrev pub lastFields : Set → List ℕ
+lastFields s = fieldsOf 0x04 literalBody (take (s .m) (s .constraints)) ++ fieldOf 0x05 []
+
+-- those of outputs, too
+abbrev pub laterFields : Set → List ℕ
+laterFields s = fieldsOf 0x03 outputBody (take (s .n) (s .outputs)) ++ lastFields s
+
+-- those of read points, too
+abbrev pub restFields : Set → List ℕ
+restFields s = fieldsOf 0x02 readBody (take (s .r) (s .reads)) ++ laterFields s
+
+-- A set's file is the counts and those.
+pub file-parts : (s : Set) → writeOf s ≡ fieldOf 0x01 (s .r ∷ s .n ∷ []) ++ restFields s
+unfolding writeOf
+file-parts s = simp append-assoc
+
+module _ (s : Set) (ok : wellFormed s ≡ true) where
+  counts-pass : every (countTests (s .r) (s .n) 0) ≡ true
+  unfolding countTests
+  counts-pass = let c = counts s ok in rw (le-leb (s .r) 16 (c .r-le), le-leb 1 (s .n) (c .n-pos), le-leb (s .n) 12 (c .n-le), le-leb (s .r + s .n) 24 (c .sum-le))
+
+  constraint-fits : (k : ℕ) → k < s .m → every (constraintTests (s .r) (s .n) (getD (s .constraints) k noConstraint)) ≡ true
+  unfolding wellFormed setTests constraintPlace constraint
+  constraint-fits k h =
+      let c = getD (s .constraints) k noConstraint in
+      let few = counts s ok .m-le in
+      cond-true (ltb k (s .m)) (every (constraintTests (s .r) (s .n) c)) (constraintZero c) (lt-ltb k (s .m) h)
+      ∙ all-at 64 (constraintPlace s) (every-at (setTests s) ok 4) k (omega arith)
+
+  constraint-rest : (k : ℕ) → s .m ≤ k → k < 64 → getD (s .constraints) k noConstraint ≡ zeroConstraint
+  unfolding constraint
+  constraint-rest k h l = constraint-blank (getD (s .constraints) k noConstraint) (beyond-zero s ok k h l)
+
+  module _ (file : List ℕ) (e : file ≡ fieldOf 0x01 (s .r ∷ s .n ∷ []) ++ restFields s) where
+    counts-back : countsAt file ≡ goingOn 5 (withCounts (s .r) (s .n))
+    unfolding countsAt
+    counts-back =
+        ap countsAt e
+        ∙ ap (countsGiven (fieldOf 0x01 (s .r ∷ s .n ∷ []) ++ restFields s)) (field-back 1 (s .r ∷ s .n ∷ []) (restFields s) 1 0 refl refl refl)
+        ∙ ap (λ (b : Bool). cond b (goingOn 5 (withCounts (s .r) (s .n))) (refusal 5 0)) counts-pass
+
+    loads : loadFrom file ≡ goingOn (length file) s
+    unfolding loadFrom zeroSet
+    loads =
+        let c = counts s ok in
+        let p = points-formed s ok in
+        let a = points-back file (readPoints file (s .r) (s .n)) (s .reads) (s .r) (p .reads-long) (p .reads-few)
+        (λ k h. read-fits (s .n) (s .reads) k (p .read-ok k h)) (λ k h l. read-blank (readPoint (s .reads) k) (p .read-zero k h l)) 5 (laterFields s) (ap (drop 5) e) in
+        let b = points-back file (outputPoints file (s .r) (s .n) (s .reads)) (s .outputs) (s .n) (p .outputs-long) (p .outputs-few)
+        (λ k h. output-fits (s .reads) (s .r) (s .outputs) k (p .output-ok k h)) (λ k h l. output-blank (outputPoint (s .outputs) k) (p .output-zero k h l)) (a .0) (lastFields s) (a .2) in
+        let left = 64 - s .m in
+        let few = c .m-le in
+        let sum : 65 ≡ s .m + suc left = omega arith in
+        let d = run-back file (constraintRun file (s .r) (s .n) (s .reads) (s .outputs))
+        (constraint-step file (s .r) (s .n) (c .r-le) (c .n-le) (c .sum-le) (s .reads) (s .outputs))
+        (s .constraints) (s .m) (p .constraints-long) (c .m-le) constraint-fits constraint-rest (suc left) (b .0) (fieldOf 0x05 []) (b .2) in
+        ap (λ (l : Loading). andThen l (afterCounts file)) counts-back
+        ∙ ap (λ (l : Loading). andThen l (afterReads file)) (a .1)
+        ∙ ap (λ (l : Loading). andThen l (afterOutputs file)) (b .1)
+        ∙ ap (λ (k : ℕ). constraintsFrom file k (b .0) (outputsBase (s .r) (s .n) (s .reads) (s .n) (s .outputs))) sum
+        ∙ d .1
+        ∙ end-back file (s .r) (s .n) (c .r-le) (c .n-le) (c .sum-le) (s .reads) (s .outputs) left (s .m) (d .0) (s .constraints) (d .2)
+
+-- Loading the file of a well-formed set comes to its end.
+pub loads-written : (s : Set) → wellFormed s ≡ true → loadFrom (writeOf s) ≡ goingOn (length (writeOf s)) s
+loads-written s ok = loads s ok (writeOf s) (file-parts s)
+
+-- The file of a well-formed set loads to the set.
+pub load-written : (s : Set) → wellFormed s ≡ true → loadOf (writeOf s) ≡ record { answer = Loaded; set = s }
+unfolding loadOf
+load-written s ok = ap (λ (l : Loading). record { answer = answerOf (l .progress); set = l .set }) (loads-written s ok)

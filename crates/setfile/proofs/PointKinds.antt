@@ -1,0 +1,178 @@
+-- The fields of read points and the fields of outputs, as runs of points.
+-- Assumes nothing.
+use mathlib.Core.Path.{_≡_, refl, ap}
+use mathlib.Core.Bool.{true}
+use mathlib.Core.List.{List}
+use Prim.Native.Nat.{ℕ, suc, _+_}
+use native.Mathlib.Nat.{mod-one}
+use native.Mathlib.Omega.{arith}
+use lib.ListN.{length, drop, length-append}
+use borrow.Author.Tests.{le-leb}
+use Rattle.scan.specs.declared.set.Kind.{Kind}
+use Rattle.scan.specs.declared.set.Kind.the-variants.{Sensor, PastOutput, PastSensor}
+use Rattle.scan.specs.declared.set.ReadPoint.{ReadPoint}
+use Rattle.scan.specs.declared.set.OutputPoint.{OutputPoint}
+use Rattle.scan.specs.declared.set.Set.{Set}
+use Rattle.scan.specs.Set.{zeroRead, zeroOutput, zeroSet, noRead, noOutput}
+use Rattle.scan.specs.Names.{nameBytes}
+use Rattle.setfile.specs.declared.header.Header.{Header}
+use Rattle.setfile.specs.declared.header.Header.the-variants.{Refused as Stopped, Field}
+use Rattle.setfile.specs.declared.point.Point.{Point}
+use Rattle.setfile.specs.declared.point.Point.the-variants.{Refused as Denied, Good}
+use Rattle.setfile.specs.declared.point.ReadField.{ReadField}
+use Rattle.setfile.specs.declared.point.OutputField.{OutputField}
+use Rattle.setfile.specs.declared.loader.Loading.{Loading}
+use Rattle.setfile.specs.Header.{headerOf, bodyOf, fitsTable}
+use Rattle.setfile.specs.Load.{goingOn, andThen, readField, readDone, readGiven, readAt, readsFrom, outputField, outputDone, outputGiven, outputAt, outputsFrom}
+use Rattle.setfile.specs.Write.{kindBytes, readBody, outputBody}
+use Rattle.setfile.proofs.Fields.{table-bounds}
+use Rattle.setfile.proofs.NamesBack.{name-bounds}
+use Rattle.setfile.proofs.PointsFit.{ReadFits, OutputFits, read-local, output-local}
+use Rattle.setfile.proofs.PointFields.{read-back, read-taken, output-back, output-taken}
+use Rattle.setfile.proofs.Runs.{Run}
+use Rattle.setfile.proofs.PointRuns.{pointDone, pointGiven, PointRun}
+
+-- ---- read points
+
+-- the set of r and n with these read points
+abbrev pub readsBase : ℕ → ℕ → ℕ → List ReadPoint → Set
+readsBase r n i l = record { r = r; n = n; m = 0; reads = l; outputs = zeroSet .outputs; constraints = zeroSet .constraints }
+
+abbrev pub readRun : List ℕ → ℕ → ℕ → Run ReadPoint
+readRun file r n = record {
+  tag = 2;
+  body = readBody;
+  places = 16;
+  blank = zeroRead;
+  past = noRead;
+  base = readsBase r n;
+  from = readsFrom file;
+  Fits = ReadFits n;
+  local = read-local n;
+}
+
+abbrev pub readSaid : List ℕ → Set → ℕ → Point
+readSaid b s i = readField b s i .point
+
+abbrev pub readValue : List ℕ → Set → ℕ → ReadPoint
+readValue b s i = readField b s i .read
+
+module _ (file : List ℕ) (r n : ℕ) where
+  read-given : (at i : ℕ) (l : List ReadPoint) (x : Header) → readGiven file at (readsBase r n i l) i x ≡ pointGiven file (readRun file r n) readSaid readValue at i l x
+  read-given at i l (Stopped number) = refl
+  read-given at i l (Field tag len) = go (readSaid (bodyOf (drop at file) len) (readsBase r n i l) i)
+    where
+      p : ReadPoint
+      p = readValue (bodyOf (drop at file) len) (readsBase r n i l) i
+
+      go : (t : Point) → readDone at len (readsBase r n i l) i t p ≡ pointDone file (readRun file r n) readSaid readValue at len i l t p
+      go (Denied number) = refl
+      go Good = refl
+
+  pub reads-give : (l : List ReadPoint) (i : ℕ) (p : ReadPoint) → ReadFits n l i p
+      → (fitsTable 2 (length (readBody p)) ≡ true) × (readSaid (readBody p) (readsBase r n i l) i ≡ Good) × (readValue (readBody p) (readsBase r n i l) i ≡ p)
+  reads-give l i p f =
+      let b = name-bounds (p .name) (f .name-ok) in
+      let k : length (kindBytes (p .kind)) ≡ 2 = two (p .kind) in
+      let w = length-append (kindBytes (p .kind)) (nameBytes (p .name)) in
+      let len = length (readBody p) in
+      let t = read-back (readsBase r n i l) i p f in (
+        simp (le-leb 3 len (omega (arith, w, k, b)), le-leb len 10 (omega (arith, w, k, b)), mod-one len),
+        ap (λ (x : ReadField). x .point) t,
+        ap (λ (x : ReadField). x .read) t,
+      )
+    where
+      two : (x : Kind) → length (kindBytes x) ≡ 2
+      two Sensor = refl
+      two (PastOutput k) = refl
+      two (PastSensor k) = refl
+
+  pub reads-end : (i at : ℕ) (s : Set) → readsFrom file 0 i at s ≡ goingOn at s
+  unfolding readsFrom
+  reads-end i at s = refl
+
+  pub reads-open : (left i at : ℕ) (l : List ReadPoint)
+      → readsFrom file (suc left) i at (readsBase r n i l) ≡ andThen (pointGiven file (readRun file r n) readSaid readValue at i l (headerOf (drop at file) 2 0)) (readsFrom file left (i + 1))
+  unfolding readsFrom readAt
+  reads-open left i at l = ap (λ (x : Loading). andThen x (readsFrom file left (i + 1))) (read-given at i l (headerOf (drop at file) 2 0))
+
+  -- Fields of read points, for a set of r and n.
+  abbrev pub readPoints : PointRun ReadPoint file
+  readPoints = record {
+    run = readRun file r n;
+    said = readSaid;
+    value = readValue;
+    plain = refl;
+    ends = reads-end;
+    opens = reads-open;
+    gives = reads-give;
+    takes = λ b l i t g. let w = table-bounds 2 (length b) t in read-taken b (readsBase r n i l) i (w .0) (w .1) g;
+  }
+
+-- ---- outputs
+
+-- the set with these outputs
+abbrev pub outputsBase : ℕ → ℕ → List ReadPoint → ℕ → List OutputPoint → Set
+outputsBase r n reads j l = record { r = r; n = n; m = 0; reads = reads; outputs = l; constraints = zeroSet .constraints }
+
+abbrev pub outputRun : List ℕ → ℕ → ℕ → List ReadPoint → Run OutputPoint
+outputRun file r n reads = record {
+  tag = 3;
+  body = outputBody;
+  places = 12;
+  blank = zeroOutput;
+  past = noOutput;
+  base = outputsBase r n reads;
+  from = outputsFrom file;
+  Fits = OutputFits reads r;
+  local = output-local reads r;
+}
+
+abbrev pub outputSaid : List ℕ → Set → ℕ → Point
+outputSaid b s j = outputField b s j .point
+
+abbrev pub outputValue : List ℕ → Set → ℕ → OutputPoint
+outputValue b s j = outputField b s j .output
+
+module _ (file : List ℕ) (r n : ℕ) (reads : List ReadPoint) where
+  output-given : (at j : ℕ) (l : List OutputPoint) (x : Header)
+      → outputGiven file at (outputsBase r n reads j l) j x ≡ pointGiven file (outputRun file r n reads) outputSaid outputValue at j l x
+  output-given at j l (Stopped number) = refl
+  output-given at j l (Field tag len) = go (outputSaid (bodyOf (drop at file) len) (outputsBase r n reads j l) j)
+    where
+      p : OutputPoint
+      p = outputValue (bodyOf (drop at file) len) (outputsBase r n reads j l) j
+
+      go : (t : Point) → outputDone at len (outputsBase r n reads j l) j t p ≡ pointDone file (outputRun file r n reads) outputSaid outputValue at len j l t p
+      go (Denied number) = refl
+      go Good = refl
+
+  pub outputs-give : (l : List OutputPoint) (j : ℕ) (p : OutputPoint) → OutputFits reads r l j p
+      → (fitsTable 3 (length (outputBody p)) ≡ true) × (outputSaid (outputBody p) (outputsBase r n reads j l) j ≡ Good) × (outputValue (outputBody p) (outputsBase r n reads j l) j ≡ p)
+  outputs-give l j p f =
+      let b = name-bounds (p .name) (f .name-ok) in
+      let len = length (outputBody p) in
+      let t = output-back (outputsBase r n reads j l) j p f in
+      (simp (le-leb 1 len (b .0), le-leb len 8 (b .1), mod-one len), ap (λ (x : OutputField). x .point) t, ap (λ (x : OutputField). x .output) t)
+
+  pub outputs-end : (j at : ℕ) (s : Set) → outputsFrom file 0 j at s ≡ goingOn at s
+  unfolding outputsFrom
+  outputs-end j at s = refl
+
+  pub outputs-open : (left j at : ℕ) (l : List OutputPoint)
+      → outputsFrom file (suc left) j at (outputsBase r n reads j l) ≡ andThen (pointGiven file (outputRun file r n reads) outputSaid outputValue at j l (headerOf (drop at file) 3 0)) (outputsFrom file left (j + 1))
+  unfolding outputsFrom outputAt
+  outputs-open left j at l = ap (λ (x : Loading). andThen x (outputsFrom file left (j + 1))) (output-given at j l (headerOf (drop at file) 3 0))
+
+  -- Fields of outputs, for a set of r, n and these read points.
+  abbrev pub outputPoints : PointRun OutputPoint file
+  outputPoints = record {
+    run = outputRun file r n reads;
+    said = outputSaid;
+    value = outputValue;
+    plain = refl;
+    ends = outputs-end;
+    opens = outputs-open;
+    gives = outputs-give;
+    takes = λ b l j t g. let w = table-bounds 3 (length b) t in output-taken b (outputsBase r n reads j l) j (w .0) (w .1) g;
+  }

@@ -1,0 +1,25 @@
+-- Document 01's set P and its file of 39 bytes: each gives the other, by computation.
+-- Assumes nothing.
+use mathlib.Core.Path.{_≡_, refl}
+use Rattle.words.specs.Word.{odd, bit}
+use Rattle.words.specs.Loop.{all, first, firstFrom}
+use Rattle.scan.specs.Set.{zeroSet}
+use Rattle.scan.specs.Names.{nameByte, allNameBytes, nameRead, nameLength, nameBytes, sameName, readNamed, firstRead, outputNamed, firstOutput, isUsed}
+use Rattle.scan.specs.Shape.{countTests}
+use Rattle.scan.specs.Samples.{P}
+use Rattle.setfile.specs.declared.loader.LoadAnswer.the-variants.{Loaded}
+use Rattle.setfile.specs.Header.{headerOf}
+use Rattle.setfile.specs.Literal.{withLiteral, literalsFrom}
+use Rattle.setfile.specs.Load.{countsAt, kindOf, readField, readAt, readsFrom, outputField, outputAt, outputsFrom, constraintAt, constraintsFrom, loadFrom, loadOf}
+use Rattle.setfile.specs.Write.{readLiteral, outputLiteral, joined, literalBody, fieldsOf, writeOf}
+use Rattle.setfile.specs.SampleFile.{fileP}
+
+-- The file loads to P.
+pub P-loads : loadOf fileP ≡ record { answer = Loaded; set = P }
+unfolding all firstFrom first zeroSet nameByte allNameBytes nameRead sameName readNamed firstRead outputNamed firstOutput isUsed countTests headerOf withLiteral literalsFrom countsAt kindOf readField readAt readsFrom outputField outputAt outputsFrom constraintAt constraintsFrom loadFrom loadOf
+P-loads = refl
+
+-- P's file is the file.
+pub P-written : writeOf P ≡ fileP
+unfolding odd bit firstFrom first nameLength nameBytes readLiteral outputLiteral joined literalBody fieldsOf writeOf
+P-written = refl

@@ -1,0 +1,136 @@
+-- The file of a well-formed set is a list of bytes.
+-- Assumes nothing.
+use mathlib.Core.Path.{_≡_, sym, subst}
+use mathlib.Core.Bool.{Bool, true, false}
+use mathlib.Core.List.{List, [], _∷_, _++_}
+use Prim.Native.Nat.{ℕ, zero, suc, _/_, _%_, _≤_, _<_}
+use native.Mathlib.Omega.{arith}
+use lib.Dec.{ltb, leb}
+use lib.ListN.{length, getD, take, length-take}
+use lib.Seq.{getD-take}
+use borrow.Author.Tests.{ltb-true, leb-true}
+use Rattle.words.specs.Word.{bit}
+use Rattle.words.proofs.Bools.{and-true}
+use Rattle.words.proofs.Loops.{all-at}
+use Rattle.scan.specs.declared.set.Kind.{Kind}
+use Rattle.scan.specs.declared.set.Kind.the-variants.{Sensor, PastOutput, PastSensor}
+use Rattle.scan.specs.declared.set.ReadPoint.{ReadPoint}
+use Rattle.scan.specs.declared.set.Constraint.{Constraint}
+use Rattle.scan.specs.declared.set.Set.{Set}
+use Rattle.scan.specs.Set.{readPoint, outputPoint, constraint, noRead, noOutput, noConstraint}
+use Rattle.scan.specs.Names.{nameByte, allNameBytes, nameBytes, nameOk}
+use Rattle.scan.specs.Shape.{isSensor, kindOk, wellFormed}
+use Rattle.scan.proofs.Formed.{Masks, rank-lt, counts, masks}
+use Rattle.scan.proofs.Points.{points-formed}
+use Rattle.setfile.specs.Bytes.{Bytes}
+use Rattle.setfile.specs.Write.{fieldOf, kindBytes, readBody, outputBody, readLiteral, outputLiteral, joined, literalBody, fieldsOf, writeOf}
+use Rattle.setfile.proofs.Places.{byte, mask, by-four}
+use Rattle.setfile.proofs.Joins.{worth, told, literal}
+use Rattle.setfile.proofs.Fields.{table-bounds}
+use Rattle.setfile.proofs.NamesBack.{bytes-named}
+use Rattle.setfile.proofs.PointsFit.{read-fits, output-fits}
+use Rattle.setfile.proofs.PointKinds.{reads-give, outputs-give}
+use Rattle.setfile.proofs.ConstraintRuns.{body-fits}
+use Rattle.setfile.proofs.LoadWritten.{lastFields, laterFields, restFields, file-parts}
+
+-- ---- lists of bytes
+
+none : Bytes []
+none k h = absurd (omega arith)
+
+more : (x : ℕ) (l : List ℕ) → x < 256 → Bytes l → Bytes (x ∷ l)
+more x l h b zero w = h
+more x l h b (suc k) w = b k (omega arith)
+
+two : (x y : ℕ) → x < 256 → y < 256 → Bytes (x ∷ y ∷ [])
+two x y h l = more x (y ∷ []) h (more y [] l none)
+
+both : (a b : List ℕ) → Bytes a → Bytes b → Bytes (a ++ b)
+both [] b f g = g
+both (x ∷ a) b f g = more x (a ++ b) (f 0 (omega arith)) (both a b (λ k h. f (suc k) (omega arith)) g)
+
+of-field : (tag : ℕ) (body : List ℕ) → tag < 256 → length body ≤ 48 → Bytes body → Bytes (fieldOf tag body)
+of-field tag body h l b =
+    more tag (length body / 256 ∷ length body % 256 ∷ body) h (more (length body / 256) (length body % 256 ∷ body) (omega arith) (more (length body % 256) body (omega arith) b))
+
+of-fields : {A : Type 0} (tag : ℕ) (body : A → List ℕ) (d : A) (l : List A) → tag < 256 → ((k : ℕ) → k < length l → (length (body (getD l k d)) ≤ 48) × Bytes (body (getD l k d))) → Bytes (fieldsOf tag body l)
+unfolding fieldsOf
+of-fields tag body d [] h f = none
+of-fields tag body d (p ∷ l) h f =
+    both (fieldOf tag (body p)) (fieldsOf tag body l) (of-field tag (body p) h (f 0 (omega arith) .0) (f 0 (omega arith) .1))
+    (of-fields tag body d l h (λ k w. f (suc k) (omega arith)))
+
+-- of the first N elements of a list
+of-first : {A : Type 0} (tag : ℕ) (body : A → List ℕ) (d : A) (l : List A) (N : ℕ) → tag < 256 → ((k : ℕ) → k < N → (length (body (getD l k d)) ≤ 48) × Bytes (body (getD l k d)))
+    → Bytes (fieldsOf tag body (take N l))
+of-first tag body d l N h f =
+    of-fields tag body d (take N l) h
+    (λ k w. let e = length-take N l in let v : k < N = omega arith in
+    subst (λ p. (length (body p) ≤ 48) × Bytes (body p)) (sym (getD-take N l k d v)) (f k v))
+
+-- ---- bodies
+
+of-name : (name : List ℕ) → nameOk name ≡ true → Bytes (nameBytes name)
+unfolding allNameBytes nameByte
+of-name name ok k h =
+    let b = getD (nameBytes name) k 0 in
+    let t = all-at (length (nameBytes name)) (λ j. nameByte (getD (nameBytes name) j 0)) (bytes-named name ok) k h in
+    let l : b ≤ 0x7E = leb-true b 0x7E (and-true (leb 0x21 b) (leb b 0x7E) t .1) in
+    omega arith
+
+of-kind : (reads : List ReadPoint) (n k : ℕ) (x : Kind) → n ≤ 12 → k < 16 → kindOk reads n k x ≡ true → Bytes (kindBytes x)
+unfolding kindOk
+of-kind reads n k Sensor h l e = two 0 0 (omega arith) (omega arith)
+of-kind reads n k (PastOutput i) h l e = let w = ltb-true i n e in two 1 i (omega arith) (omega arith)
+of-kind reads n k (PastSensor i) h l e =
+    let w = ltb-true i k (and-true (ltb i k) (isSensor (readPoint reads i .kind)) e .0) in two 2 i (omega arith) (omega arith)
+
+small : (k : ℕ) → k < 16 → (o g : Bool) → byte o g k < 256
+small k h = by-four (λ (o g : Bool). byte o g k < 256) (omega arith) (omega arith) (omega arith) (omega arith)
+
+of-told : (o p q : Bool) (k x : ℕ) → k < 16 → x < 256 → Bytes (told o p q k x)
+of-told o true q k x h l = two (byte o false k) x (small k h o false) l
+of-told o false true k x h l = two (byte o true k) x (small k h o true) l
+of-told o false false k x h l = none
+
+of-joined : (N : ℕ) (f : ℕ → List ℕ) → ((k : ℕ) → k < N → Bytes (f k)) → Bytes (joined N f)
+unfolding joined
+of-joined zero f h = none
+of-joined (suc N) f h = both (joined N f) (f N) (of-joined N f (λ k w. h k (omega arith))) (h N (omega arith))
+
+of-literals : (r n : ℕ) (c : Constraint) → Masks r n c → Bytes (literalBody c)
+unfolding literalBody readLiteral outputLiteral
+of-literals r n c m =
+    both (joined 16 (literal c false)) (joined 12 (literal c true))
+    (of-joined 16 (literal c false) (λ k h. of-told false (bit k (mask false false c)) (bit k (mask false true c)) k 0 h (omega arith)))
+    (of-joined 12 (literal c true) (λ k h. of-told true (bit k (mask true false c)) (bit k (mask true true c)) k (worth true c k) (omega arith) (rank-lt c k (m .ranks-ok k h))))
+
+-- The file of a well-formed set is a list of bytes.
+pub written-bytes : (s : Set) → wellFormed s ≡ true → Bytes (writeOf s)
+unfolding constraint
+written-bytes s ok =
+    let c = counts s ok in
+    let p = points-formed s ok in
+    let few = c .r-le in
+    let low = c .n-le in
+    subst Bytes (sym (file-parts s))
+    (both (fieldOf 1 (s .r ∷ s .n ∷ [])) (restFields s) (of-field 1 (s .r ∷ s .n ∷ []) (omega arith) (omega arith) (two (s .r) (s .n) (omega arith) (omega arith)))
+    (both (fieldsOf 2 readBody (take (s .r) (s .reads))) (laterFields s)
+    (of-first 2 readBody noRead (s .reads) (s .r) (omega arith)
+    (λ k h. let f = read-fits (s .n) (s .reads) k (p .read-ok k h) in
+    let q = readPoint (s .reads) k in
+    let w = table-bounds 2 (length (readBody q)) (reads-give [] (s .r) (s .n) (s .reads) k q f .0) .1 in
+    (omega (arith, w), both (kindBytes (q .kind)) (nameBytes (q .name)) (of-kind (s .reads) (s .n) k (q .kind) low (omega arith) (f .kind-ok)) (of-name (q .name) (f .name-ok)))))
+    (both (fieldsOf 3 outputBody (take (s .n) (s .outputs))) (lastFields s)
+    (of-first 3 outputBody noOutput (s .outputs) (s .n) (omega arith)
+    (λ k h. let f = output-fits (s .reads) (s .r) (s .outputs) k (p .output-ok k h) in
+    let q = outputPoint (s .outputs) k in
+    let w = table-bounds 3 (length (outputBody q)) (outputs-give [] (s .r) (s .n) (s .reads) (s .outputs) k q f .0) .1 in
+    (omega (arith, w), of-name (q .name) (f .name-ok))))
+    (both (fieldsOf 4 literalBody (take (s .m) (s .constraints))) (fieldOf 5 [])
+    (of-first 4 literalBody noConstraint (s .constraints) (s .m) (omega arith)
+    (λ k h. let m = masks s ok k h in
+    let q = getD (s .constraints) k noConstraint in
+    let w = table-bounds 4 (length (literalBody q)) (body-fits (s .r) (s .n) q (c .r-le) (c .n-le) (c .sum-le) m) .1 in
+    (omega (arith, w), of-literals (s .r) (s .n) q m)))
+    (of-field 5 [] (omega arith) (omega arith) none)))))

@@ -1,0 +1,157 @@
+// Literals: bit 7 marks a negated one, bit 6 an output, bits 5 and 4 are zero, then the point's number; and the rank.
+use super::numbers::BAD_LITERAL;
+use super::numbers::NO_OUTPUT;
+use super::numbers::NOT_RISING;
+use scan::Constraint;
+ghost use mathlib.Core.Path.{_≡_};
+ghost use mathlib.Core.Bool.{true};
+ghost use Prim.Native.Nat.{_≤_, _<_, _%_};
+ghost use lib.ListN.{length};
+ghost use Rattle.scan.specs.Set.{zeroConstraint};
+ghost use Rattle.setfile.specs.Literal.{isOutput, isNegated, spare, number, place, isLiteral, withLiteral, literalsOf, refusedLiterals};
+
+// The place of output 0 in the order of literals.
+const OUTPUTS_FROM: usize = 16;
+
+// A refusal's number; or the least place that a next literal may have: read points have 0 to 15, outputs 16 to 31.
+pub enum Taken {
+    Refused(u8),
+    Next(usize),
+}
+
+pub struct Literals {
+    pub taken: Taken,
+    pub made: Constraint,
+}
+
+fn is_output(first: u8) -> bool
+    ensures { λ r. ⌜ r ≡ isOutput first ⌝ }
+{
+    (first >> 6) & 1 == 1
+}
+
+fn is_negated(first: u8) -> bool
+    ensures { λ r. ⌜ r ≡ isNegated first ⌝ }
+{
+    first >> 7 == 1
+}
+
+fn spare_bits(first: u8) -> u8
+    ensures { λ r. ⌜ r ≡ spare first ⌝ }
+{
+    (first >> 4) & 3
+}
+
+fn number_of(first: u8) -> usize
+    ensures { λ r. ⌜ r ≡ number first ⌝ }
+{
+    (first & 0x0F) as usize
+}
+
+// The literal's place in the order: read points by number, then outputs by number.
+fn place_of(first: u8) -> usize
+    ensures { λ r. ⌜ r ≡ place first ⌝ }
+{
+    let number = number_of(first);
+    if is_output(first) {
+        return OUTPUTS_FROM + number;
+    }
+    number
+}
+
+// The literal's bits 5 and 4 are zero, its point exists, and a read point's rank is 0.
+fn is_literal(first: u8, rank: u8, r: usize, n: usize) -> bool
+    ensures { λ b. ⌜ b ≡ isLiteral first rank r n ⌝ }
+{
+    if spare_bits(first) != 0 {
+        return false;
+    }
+    let number = number_of(first);
+    if is_output(first) {
+        return number < n;
+    }
+    if rank != 0 {
+        return false;
+    }
+    number < r
+}
+
+// The constraint with one literal more. An output's number is below 12.
+fn with_literal(made: Constraint, first: u8, rank: u8) -> Constraint
+    requires { ⌜ (isOutput first ≡ true → number first < 12) ⌝ }
+    ensures { λ r. ⌜ r ≡ withLiteral made first rank ⌝ }
+{
+    let mut c = made;
+    let number = number_of(first);
+    if is_output(first) {
+        let bit = 1u16 << number;
+        c.ranks[number] = rank;
+        if is_negated(first) {
+            c.out_negated = c.out_negated | bit;
+            return c;
+        }
+        c.out_plain = c.out_plain | bit;
+        return c;
+    }
+    let bit = 1u32 << number;
+    if is_negated(first) {
+        c.read_negated = c.read_negated | bit;
+        return c;
+    }
+    c.read_plain = c.read_plain | bit;
+    c
+}
+
+fn zero_constraint() -> Constraint
+    ensures { λ r. ⌜ r ≡ zeroConstraint ⌝ }
+{
+    let ranks = [0u8; 12];
+    Constraint {
+        read_plain: 0,
+        read_negated: 0,
+        out_plain: 0,
+        out_negated: 0,
+        ranks,
+    }
+}
+
+fn refused_literals(number: u8) -> Literals
+    ensures { λ r. ⌜ r ≡ refusedLiterals number ⌝ }
+{
+    let made = zero_constraint();
+    Literals {
+        taken: Taken::Refused(number),
+        made,
+    }
+}
+
+// The constraint of a body of literals.
+pub fn literals_of(body: &[u8], r: usize, n: usize) -> Literals
+    requires { ⌜ (length (now body) % 2 ≡ 0) × (n ≤ 12) ⌝ }
+    ensures { λ l. ⌜ l ≡ literalsOf r n (now (body .entry)) ⌝ }
+{
+    let mut made = zero_constraint();
+    let mut next = 0;
+    let mut i = 0;
+    while i < body.len() {
+        let first = body[i];
+        let rank = body[i + 1];
+        if !is_literal(first, rank, r, n) {
+            return refused_literals(BAD_LITERAL);
+        }
+        let place = place_of(first);
+        if place < next {
+            return refused_literals(NOT_RISING);
+        }
+        made = with_literal(made, first, rank);
+        next = place + 1;
+        i = i + 2;
+    }
+    if next <= OUTPUTS_FROM {
+        return refused_literals(NO_OUTPUT);
+    }
+    Literals {
+        taken: Taken::Next(next),
+        made,
+    }
+}

@@ -1,0 +1,298 @@
+// Loading: the counts, then read points, outputs, constraints and the end, each field from the front of what is left.
+use super::header::Header;
+use super::header::header_at;
+use super::literal::Taken;
+use super::literal::literals_of;
+use super::numbers::BAD_COUNTS;
+use super::numbers::BYTES_FOLLOW;
+use super::numbers::TAG_CONSTRAINT;
+use super::numbers::TAG_COUNTS;
+use super::numbers::TAG_END;
+use super::numbers::TAG_OUTPUT;
+use super::numbers::TAG_READ;
+use super::point::Point;
+use super::point::output_field;
+use super::point::read_field;
+use scan::Set;
+use scan::zero_set;
+ghost use mathlib.Core.Path.{_≡_};
+ghost use Prim.Native.Nat.{_+_, _≤_, _<_, _%_};
+ghost use lib.ListN.{length, drop};
+ghost use Rattle.setfile.specs.Load.{refusal, goingOn, countsAt, readAt, outputAt, constraintAt, readsFrom, outputsFrom, constraintsFrom, afterReads, afterCounts, loadFrom, loadOf};
+
+// A file was loaded; or the number of the refusal and the offset of the field's first byte.
+pub enum LoadAnswer {
+    Loaded,
+    Refused { number: u8, offset: usize },
+}
+
+// The answer, and the set: with every field zero where the file is refused.
+pub struct Loaded {
+    pub answer: LoadAnswer,
+    pub set: Set,
+}
+
+// The place of the next field; or a refusal's number and the offset of the field's first byte.
+pub enum Progress {
+    At(usize),
+    Refused(u8, usize),
+}
+
+pub struct Loading {
+    pub progress: Progress,
+    pub set: Set,
+}
+
+fn refused(number: u8, at: usize) -> Loading
+    ensures { λ r. ⌜ r ≡ refusal number at ⌝ }
+{
+    let set = zero_set();
+    Loading {
+        progress: Progress::Refused(number, at),
+        set,
+    }
+}
+
+fn going_on(at: usize, set: Set) -> Loading
+    ensures { λ r. ⌜ r ≡ goingOn at set ⌝ }
+{
+    Loading {
+        progress: Progress::At(at),
+        set,
+    }
+}
+
+fn counts_at(s: &[u8]) -> Loading
+    ensures { λ r. ⌜ r ≡ countsAt (now (s .entry)) ⌝ }
+{
+    match header_at(s, 0, TAG_COUNTS, 0) {
+        Header::Refused(c) => refused(c, 0),
+        Header::Field(_, len) => {
+            let r = s[3] as usize;
+            let n = s[4] as usize;
+            if 16 < r {
+                return refused(BAD_COUNTS, 0);
+            }
+            if n < 1 {
+                return refused(BAD_COUNTS, 0);
+            }
+            if 12 < n {
+                return refused(BAD_COUNTS, 0);
+            }
+            if 24 < r + n {
+                return refused(BAD_COUNTS, 0);
+            }
+            let mut set = zero_set();
+            set.r = r;
+            set.n = n;
+            going_on(3 + len, set)
+        }
+    }
+}
+
+fn read_at(s: &[u8], at: usize, set: Set, i: usize) -> Loading
+    requires { ⌜ i < 16 ⌝ }
+    ensures { λ r. ⌜ r ≡ readAt (now (s .entry)) at set i ⌝ }
+{
+    match header_at(s, at, TAG_READ, 0) {
+        Header::Refused(c) => refused(c, at),
+        Header::Field(_, len) => {
+            let f = read_field(&s[at + 3..at + 3 + len], set, i);
+            let p = f.point;
+            match p {
+                Point::Refused(c) => refused(c, at),
+                Point::Good => {
+                    let read = f.read;
+                    let mut more = set;
+                    more.reads[i] = read;
+                    going_on(at + 3 + len, more)
+                }
+            }
+        }
+    }
+}
+
+fn output_at(s: &[u8], at: usize, set: Set, j: usize) -> Loading
+    requires { ⌜ (set .r ≤ 16) × (j < 12) ⌝ }
+    ensures { λ r. ⌜ r ≡ outputAt (now (s .entry)) at set j ⌝ }
+{
+    match header_at(s, at, TAG_OUTPUT, 0) {
+        Header::Refused(c) => refused(c, at),
+        Header::Field(_, len) => {
+            let f = output_field(&s[at + 3..at + 3 + len], set, j);
+            let p = f.point;
+            match p {
+                Point::Refused(c) => refused(c, at),
+                Point::Good => {
+                    let output = f.output;
+                    let mut more = set;
+                    more.outputs[j] = output;
+                    going_on(at + 3 + len, more)
+                }
+            }
+        }
+    }
+}
+
+// A constraint whose header has been read.
+fn constraint_at(s: &[u8], at: usize, len: usize, set: Set) -> Loading
+    requires { ⌜ (at + 3 + len ≤ length (now s)) × (len % 2 ≡ 0) × (set .n ≤ 12) × (set .m < 64) ⌝ }
+    ensures { λ r. ⌜ r ≡ constraintAt (now (s .entry)) at len set ⌝ }
+{
+    let f = literals_of(&s[at + 3..at + 3 + len], set.r, set.n);
+    let p = f.taken;
+    match p {
+        Taken::Refused(c) => refused(c, at),
+        Taken::Next(_) => {
+            let made = f.made;
+            let m = set.m;
+            let mut more = set;
+            more.constraints[m] = made;
+            more.m = m + 1;
+            going_on(at + 3 + len, more)
+        }
+    }
+}
+
+fn reads_at(s: &[u8], at: usize, set: Set) -> Loading
+    requires { ⌜ set .r ≤ 16 ⌝ }
+    ensures { λ r. ⌜ r ≡ readsFrom (now (s .entry)) (set .r) 0 at set ⌝ }
+{
+    let r = set.r;
+    let mut next = at;
+    let mut so_far = set;
+    let mut i: usize = 0;
+    while i < r {
+        let l = read_at(s, next, so_far, i);
+        let p = l.progress;
+        match p {
+            Progress::Refused(_, _) => return l,
+            Progress::At(k) => {
+                next = k;
+                let more = l.set;
+                so_far = more;
+            }
+        }
+        i = i + 1;
+    }
+    going_on(next, so_far)
+}
+
+fn outputs_at(s: &[u8], at: usize, set: Set) -> Loading
+    requires { ⌜ (set .r ≤ 16) × (set .n ≤ 12) ⌝ }
+    ensures { λ r. ⌜ r ≡ outputsFrom (now (s .entry)) (set .n) 0 at set ⌝ }
+{
+    let n = set.n;
+    let mut next = at;
+    let mut so_far = set;
+    let mut j: usize = 0;
+    while j < n {
+        let l = output_at(s, next, so_far, j);
+        let p = l.progress;
+        match p {
+            Progress::Refused(_, _) => return l,
+            Progress::At(k) => {
+                next = k;
+                let more = l.set;
+                so_far = more;
+            }
+        }
+        j = j + 1;
+    }
+    going_on(next, so_far)
+}
+
+fn constraints_at(s: &[u8], at: usize, set: Set) -> Loading
+    requires { ⌜ (set .n ≤ 12) × (set .m ≡ 0) ⌝ }
+    ensures { λ r. ⌜ r ≡ constraintsFrom (now (s .entry)) 65 at set ⌝ }
+{
+    let mut next = at;
+    let mut so_far = set;
+    loop {
+        match header_at(s, next, TAG_CONSTRAINT, so_far.m) {
+            Header::Refused(c) => return refused(c, next),
+            Header::Field(tag, len) => {
+                if tag == TAG_END {
+                    if next + 3 < s.len() {
+                        return refused(BYTES_FOLLOW, next + 3);
+                    }
+                    return going_on(next + 3, so_far);
+                }
+                let l = constraint_at(s, next, len, so_far);
+                let p = l.progress;
+                match p {
+                    Progress::Refused(_, _) => return l,
+                    Progress::At(k) => {
+                        next = k;
+                        let more = l.set;
+                        so_far = more;
+                    }
+                }
+            }
+        }
+    }
+}
+
+fn after_reads(s: &[u8], at: usize, set: Set) -> Loading
+    requires { ⌜ (set .r ≤ 16) × (set .n ≤ 12) × (set .m ≡ 0) ⌝ }
+    ensures { λ r. ⌜ r ≡ afterReads (now (s .entry)) at set ⌝ }
+{
+    let l = outputs_at(s, at, set);
+    let p = l.progress;
+    match p {
+        Progress::Refused(_, _) => l,
+        Progress::At(next) => {
+            let so_far = l.set;
+            constraints_at(s, next, so_far)
+        }
+    }
+}
+
+fn after_counts(s: &[u8], at: usize, set: Set) -> Loading
+    requires { ⌜ (set .r ≤ 16) × (set .n ≤ 12) × (set .m ≡ 0) ⌝ }
+    ensures { λ r. ⌜ r ≡ afterCounts (now (s .entry)) at set ⌝ }
+{
+    let l = reads_at(s, at, set);
+    let p = l.progress;
+    match p {
+        Progress::Refused(_, _) => l,
+        Progress::At(next) => {
+            let so_far = l.set;
+            after_reads(s, next, so_far)
+        }
+    }
+}
+
+// The whole file, with the place behind its last field.
+fn load_from(s: &[u8]) -> Loading
+    ensures { λ r. ⌜ r ≡ loadFrom (now (s .entry)) ⌝ }
+{
+    let l = counts_at(s);
+    let p = l.progress;
+    match p {
+        Progress::Refused(_, _) => l,
+        Progress::At(at) => {
+            let set = l.set;
+            after_counts(s, at, set)
+        }
+    }
+}
+
+// The set that the file holds; or the refusal, beside a set with every field zero.
+pub fn load(file: &[u8]) -> Loaded
+    ensures { λ r. ⌜ r ≡ loadOf (now (file .entry)) ⌝ }
+{
+    let l = load_from(file);
+    let p = l.progress;
+    let set = l.set;
+    match p {
+        Progress::At(_) => Loaded {
+            answer: LoadAnswer::Loaded,
+            set,
+        },
+        Progress::Refused(number, offset) => Loaded {
+            answer: LoadAnswer::Refused { number, offset },
+            set,
+        },
+    }
+}

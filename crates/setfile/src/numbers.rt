@@ -1,0 +1,34 @@
+// Numbers of refusals, as document 01 has them, and the tags of fields.
+pub const PAST_END: u8 = 1;
+
+pub const TAG_NOT_DUE: u8 = 2;
+
+pub const MANY_CONSTRAINTS: u8 = 3;
+
+pub const BAD_LENGTH: u8 = 4;
+
+pub const BAD_COUNTS: u8 = 5;
+
+pub const BAD_KIND: u8 = 6;
+
+pub const BAD_NAME_BYTE: u8 = 7;
+
+pub const NAME_USED: u8 = 8;
+
+pub const BAD_LITERAL: u8 = 9;
+
+pub const NOT_RISING: u8 = 10;
+
+pub const NO_OUTPUT: u8 = 11;
+
+pub const BYTES_FOLLOW: u8 = 12;
+
+pub const TAG_COUNTS: u8 = 0x01;
+
+pub const TAG_READ: u8 = 0x02;
+
+pub const TAG_OUTPUT: u8 = 0x03;
+
+pub const TAG_CONSTRAINT: u8 = 0x04;
+
+pub const TAG_END: u8 = 0x05;
