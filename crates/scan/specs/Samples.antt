@@ -42,23 +42,27 @@ setOf reads names constraints = record {
 
 -- ---- names
 
--- 7, 07 and 007
+-- 7
 abbrev pub name7 : List ℕ
 name7 = 0x37 ∷ []
 
+-- 07
 abbrev pub name07 : List ℕ
 name07 = 0x30 ∷ name7
 
+-- 007
 abbrev pub name007 : List ℕ
 name007 = 0x30 ∷ name07
 
--- the outputs A, B and C of document 01's cases
+-- A, output 0 of document 01's cases
 abbrev pub nameA : List ℕ
 nameA = 0x41 ∷ []
 
+-- B, output 1
 abbrev pub nameB : List ℕ
 nameB = 0x42 ∷ []
 
+-- C, output 2
 abbrev pub nameC : List ℕ
 nameC = 0x43 ∷ []
 

@@ -36,7 +36,8 @@ use Rattle.setfile.proofs.Marks.{size}
 use Rattle.setfile.proofs.FineBits.{Fine, fine}
 use Rattle.setfile.proofs.LiteralsBack.{literals-back}
 use Rattle.setfile.proofs.LiteralsTaken.{literals-taken}
-use Rattle.setfile.proofs.Fields.{body-back, field-back, table-bounds, found, due-is}
+use Rattle.setfile.proofs.HeaderLaws.{table-bounds, due-is}
+use Rattle.setfile.proofs.Fields.{body-back, field-back, found}
 use Rattle.setfile.proofs.Runs.{Run, Moved}
 
 -- ---- how long a body is

@@ -16,6 +16,7 @@ use Rattle.setfile.specs.declared.header.Header.the-variants.{Field}
 use Rattle.setfile.specs.Bytes.{Bytes}
 use Rattle.setfile.specs.Header.{shortest, longest, step, fitsTable, isDue, bodyLength, need, headerOf, bodyOf}
 use Rattle.setfile.specs.Write.{fieldOf}
+use Rattle.setfile.proofs.HeaderLaws.{found as header-found}
 
 -- ---- bytes
 
@@ -70,19 +71,7 @@ after-field file at tag body rest e =
     ∙ ap (drop (3 + length body)) e
     ∙ drop-at (fieldOf tag body) rest (3 + length body) (omega arith)
 
--- A length in the table is within its bounds.
-pub table-bounds : (tag len : ℕ) → fitsTable tag len ≡ true → (shortest tag ≤ len) × (len ≤ longest tag) × (len % step tag ≡ 0)
-table-bounds tag len e =
-    let a = and-true (ltb tag 6) (leb (shortest tag) len && (leb len (longest tag) && eqb (len % step tag) 0)) e in
-    let b = and-true (leb (shortest tag) len) (leb len (longest tag) && eqb (len % step tag) 0) (a .1) in
-    let c = and-true (leb len (longest tag)) (eqb (len % step tag) 0) (b .1) in
-    (leb-true _ _ (b .0), leb-true _ _ (c .0), eqb-true _ _ (c .1))
-
 -- ---- found and written
-
-passed : (b : Bool) (number : ℕ) (rest : Header) (tag len : ℕ) → need b number rest ≡ Field tag len → (b ≡ true) × (rest ≡ Field tag len)
-passed true number rest tag len e = (refl, e)
-passed false number rest tag len e = let z : _≡_ {A = ℕ} 0 1 = cc in absurd (omega arith)
 
 -- a list whose first three elements are a header
 opened : (s : List ℕ) → Bytes s → 3 + bodyLength s ≤ length s → (s ≡ fieldOf (getD s 0 0) (bodyOf s (bodyLength s)) ++ drop (3 + bodyLength s) s) × (length (bodyOf s (bodyLength s)) ≡ bodyLength s)
@@ -112,29 +101,17 @@ pub record Found (file : List ℕ) (at due m tag len : ℕ) : Type 0 where
 
 -- A field that was found is as it would be written.
 pub found : (file : List ℕ) (at due m tag len : ℕ) → Bytes file → headerOf (drop at file) due m ≡ Field tag len → Found file at due m tag len
-unfolding headerOf
 found file at due m tag len b e =
     let s = drop at file in
-    let p1 = passed (leb 3 (length s)) 1 _ tag len e in
-    let p2 = passed (leb (3 + bodyLength s) (length s)) 1 _ tag len (p1 .1) in
-    let p3 = passed (isDue due (getD s 0 0)) 2 _ tag len (p2 .1) in
-    let p4 = passed (not (eqb (getD s 0 0) 4 && leb 64 m)) 3 _ tag len (p3 .1) in
-    let p5 = passed (fitsTable (getD s 0 0) (bodyLength s)) 4 _ tag len (p4 .1) in
-    let t : getD s 0 0 ≡ tag = let h = p5 .1 in cc in
-    let l : bodyLength s ≡ len = let h = p5 .1 in cc in
-    let o = opened s (bytes-drop at file b) (leb-true (3 + bodyLength s) (length s) (p2 .0)) in
+    let h = header-found s due m tag len e in
+    let o = opened s (bytes-drop at file b) (omega (arith, h .within, h .length-is)) in
     let sum : at + (3 + len) ≡ at + 3 + len = omega arith in
     let move : drop (3 + len) s ≡ drop (at + 3 + len) file = drop-drop (3 + len) at file ∙ ap (λ (k : ℕ). drop k file) sum in
     record {
-      whole = o .0 ∙ ap₂ (λ (x y : ℕ). fieldOf x (bodyOf s y) ++ drop (3 + y) s) t l ∙ ap (λ (x : List ℕ). fieldOf tag (bodyOf s len) ++ x) move;
-      long = ap (λ (y : ℕ). length (bodyOf s y)) (sym l) ∙ o .1 ∙ l;
+      whole = o .0 ∙ ap₂ (λ (x y : ℕ). fieldOf x (bodyOf s y) ++ drop (3 + y) s) (h .tag-is) (h .length-is) ∙ ap (λ (x : List ℕ). fieldOf tag (bodyOf s len) ++ x) move;
+      long = ap (λ (y : ℕ). length (bodyOf s y)) (sym (h .length-is)) ∙ o .1 ∙ h .length-is;
       bytes = bytes-take len (drop 3 s) (bytes-drop 3 s (bytes-drop at file b));
-      awaited = subst (λ (k : ℕ). isDue due k ≡ true) t (p3 .0);
-      few = subst (λ (k : ℕ). (eqb k 4 && leb 64 m) ≡ false) t (not-true (eqb (getD s 0 0) 4 && leb 64 m) (p4 .0));
-      table = ap₂ fitsTable (sym t) (sym l) ∙ p5 .0;
+      awaited = h .awaited;
+      few = h .few;
+      table = h .table;
     }
-
--- The tag found is the one due; where constraints are due, it may be the end's.
-pub due-is : (due tag : ℕ) → (eqb due 4 && eqb tag 5) ≡ false → isDue due tag ≡ true → tag ≡ due
-due-is due tag n e =
-    by-test (eqb tag due) (λ t. eqb-true tag due t) (λ t. let z : _≡_ {A = Bool} true false = sym (or-true (eqb tag due) (eqb due 4 && eqb tag 5) e t) ∙ n in cc)

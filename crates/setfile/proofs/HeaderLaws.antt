@@ -9,8 +9,8 @@ use native.Mathlib.Nat.{add-zero}
 use lib.Dec.{ltb, leb, eqb, lit<}
 use lib.ListN.{length, getD, drop, length-drop}
 use lib.Seq.{getD-drop}
-use borrow.Author.Tests.{not-true, le-leb, lt-leb, leb-true, leb-false, eqb-true, eqb-false, eq-eqb}
-use Rattle.words.proofs.Bools.{by-test, and-true, or-true}
+use borrow.Author.Tests.{not-true, le-leb, lt-leb, leb-true, leb-false, eqb-true, eqb-false, eq-eqb, ne-eqb}
+use Rattle.words.proofs.Bools.{clash, by-test, and-true, or-true}
 use Rattle.setfile.specs.Header.{headerOf, need, isDue, fitsTable, bodyLength, shortest, longest, step}
 use Rattle.setfile.specs.declared.header.Header.{Header}
 use Rattle.setfile.specs.declared.header.Header.the-variants.{Refused, Field}
@@ -75,6 +75,8 @@ module _ (s : List ℕ) (place : ℕ) where
 -- ---- what a field that was found tells
 
 pub record Found (s : List ℕ) (due m tag len : ℕ) : Type 0 where
+  pub tag-is : getD s 0 0 ≡ tag
+  pub length-is : bodyLength s ≡ len
   pub within : 3 + len ≤ length s
   pub awaited : isDue due tag ≡ true
   pub few : (eqb tag 4 && leb 64 m) ≡ false
@@ -96,6 +98,8 @@ found s due m tag len e =
     let l : bodyLength s ≡ len = let h = g .1 in cc in
     let w : 3 + bodyLength s ≤ length s = leb-true (3 + bodyLength s) (length s) (b .0) in
     record {
+      tag-is = t;
+      length-is = l;
       within = omega (arith, w, l);
       awaited = subst (λ (k : ℕ). isDue due k ≡ true) t (d .0);
       few = subst (λ (k : ℕ). (eqb k 4 && leb 64 m) ≡ false) t (not-true (eqb (getD s 0 0) 4 && leb 64 m) (f .0));
@@ -108,16 +112,18 @@ field-within s at due m tag len e = omega (arith, length-drop at s, found (drop 
 
 -- ---- the bounds of a body, by the tag that was due
 
--- where the end is not due too, the tag is the one that was due
-due-is : (due tag : ℕ) → (due ≡ 4 → ⊥) → isDue due tag ≡ true → tag ≡ due
+-- the tag found is the one due; where constraints are due, it may be the end's
+pub due-is : (due tag : ℕ) → (eqb due 4 && eqb tag 5) ≡ false → isDue due tag ≡ true → tag ≡ due
 due-is due tag n e =
-    by-test (eqb tag due) (eqb-true tag due)
-    (λ w. absurd (n (eqb-true due 4 (and-true (eqb due 4) (eqb tag 5) (or-true (eqb tag due) (eqb due 4 && eqb tag 5) e w) .0))))
+    by-test (eqb tag due) (λ t. eqb-true tag due t) (λ t. clash (or-true (eqb tag due) (eqb due 4 && eqb tag 5) e t) n)
+
+not-end : (due tag : ℕ) → (due ≡ 4 → ⊥) → (eqb due 4 && eqb tag 5) ≡ false
+not-end due tag n = ap (λ (b : Bool). b && eqb tag 5) (ne-eqb due 4 n)
 
 pub body-bounds : (s : List ℕ) (due m tag len : ℕ) → (due ≡ 4 → ⊥) → headerOf s due m ≡ Field tag len → (shortest due ≤ len) × (len ≤ longest due)
 body-bounds s due m tag len n e =
     let f = found s due m tag len e in
-    let b = table-bounds due len (subst (λ (k : ℕ). fitsTable k len ≡ true) (due-is due tag n (f .awaited)) (f .table)) in
+    let b = table-bounds due len (subst (λ (k : ℕ). fitsTable k len ≡ true) (due-is due tag (not-end due tag n) (f .awaited)) (f .table)) in
     (b .0, b .1)
 
 pub counts-length : (s : List ℕ) (tag len : ℕ) → headerOf s 1 0 ≡ Field tag len → len ≡ 2

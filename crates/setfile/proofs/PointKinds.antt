@@ -25,7 +25,7 @@ use Rattle.setfile.specs.declared.loader.Loading.{Loading}
 use Rattle.setfile.specs.Header.{headerOf, bodyOf, fitsTable}
 use Rattle.setfile.specs.Load.{goingOn, andThen, readField, readDone, readGiven, readAt, readsFrom, outputField, outputDone, outputGiven, outputAt, outputsFrom}
 use Rattle.setfile.specs.Write.{kindBytes, readBody, outputBody}
-use Rattle.setfile.proofs.Fields.{table-bounds}
+use Rattle.setfile.proofs.HeaderLaws.{table-bounds}
 use Rattle.setfile.proofs.NamesBack.{name-bounds}
 use Rattle.setfile.proofs.PointsFit.{ReadFits, OutputFits, read-local, output-local}
 use Rattle.setfile.proofs.PointFields.{read-back, read-taken, output-back, output-taken}

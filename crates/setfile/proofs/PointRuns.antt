@@ -22,7 +22,8 @@ use Rattle.setfile.specs.Bytes.{Bytes}
 use Rattle.setfile.specs.Header.{headerOf, bodyOf, fitsTable}
 use Rattle.setfile.specs.Load.{refusal, goingOn, andThen}
 use Rattle.setfile.specs.Write.{fieldOf, fieldsOf}
-use Rattle.setfile.proofs.Fields.{body-back, field-back, found, due-is}
+use Rattle.setfile.proofs.HeaderLaws.{due-is}
+use Rattle.setfile.proofs.Fields.{body-back, field-back, found}
 use Rattle.setfile.proofs.Runs.{Run, begun, Moved, Done, run-back, run-taken}
 
 -- A body says whether it gives a point of the set so far, and which.

@@ -23,7 +23,8 @@ use Rattle.setfile.specs.Bytes.{Bytes}
 use Rattle.setfile.specs.Header.{headerOf, bodyOf, fitsTable}
 use Rattle.setfile.specs.Load.{refusal, goingOn, thenFrom, andThen, withCounts, countsGiven, countsAt, readsFrom, outputsFrom, constraintsFrom, afterCounts, afterReads, afterOutputs, answerOf, loadFrom, loadOf}
 use Rattle.setfile.specs.Write.{fieldOf, fieldsOf, readBody, outputBody, literalBody, writeOf}
-use Rattle.setfile.proofs.Fields.{two-bytes, table-bounds, found, due-is}
+use Rattle.setfile.proofs.HeaderLaws.{table-bounds, due-is}
+use Rattle.setfile.proofs.Fields.{two-bytes, found}
 use Rattle.setfile.proofs.Runs.{Done, run-taken}
 use Rattle.setfile.proofs.PointRuns.{points-taken}
 use Rattle.setfile.proofs.PointKinds.{readsBase, readRun, readPoints, outputsBase, outputRun, outputPoints}

@@ -26,7 +26,7 @@ use Rattle.setfile.specs.Bytes.{Bytes}
 use Rattle.setfile.specs.Write.{fieldOf, kindBytes, readBody, outputBody, readLiteral, outputLiteral, joined, literalBody, fieldsOf, writeOf}
 use Rattle.setfile.proofs.Places.{byte, mask, by-four}
 use Rattle.setfile.proofs.Joins.{worth, told, literal}
-use Rattle.setfile.proofs.Fields.{table-bounds}
+use Rattle.setfile.proofs.HeaderLaws.{table-bounds}
 use Rattle.setfile.proofs.NamesBack.{bytes-named}
 use Rattle.setfile.proofs.PointsFit.{read-fits, output-fits}
 use Rattle.setfile.proofs.PointKinds.{reads-give, outputs-give}
