@@ -85,7 +85,8 @@ module _ (s : Set) (ok : wellFormed s ≡ true) where
       let t = every-at (lengthTests s) (every-at (setTests s) ok 1) in
       (eqb-true _ _ (t 0), eqb-true _ _ (t 1), eqb-true _ _ (t 2))
 
-  constraint-ok : (i : ℕ) → i < s .m → every (constraintTests (s .r) (s .n) (constraint s i)) ≡ true
+  -- a constraint in use passes its tests
+  pub constraint-ok : (i : ℕ) → i < s .m → every (constraintTests (s .r) (s .n) (constraint s i)) ≡ true
   unfolding wellFormed setTests constraintPlace
   constraint-ok i h =
       let within : i < 64 = omega (arith, counts .m-le) in

@@ -73,11 +73,13 @@ module _ (name : List ℕ) (formed : NameFormed name) where
       eqb-true (getD name k 0) 0
       (cond-false (ltb k (nameLength name)) (nameByte (getD name k 0)) (zeroAt name k) (le-ltb k (nameLength name) h) ∙ formed .places k l)
 
-  bytes-long : length (nameBytes name) ≡ nameLength name
+  -- a name has as many bytes as stand before its end
+  pub bytes-long : length (nameBytes name) ≡ nameLength name
   unfolding nameBytes
   bytes-long = let long = formed .long in let few = formed .few in length-take-le (nameLength name) name (omega arith)
 
-  bytes-named : allNameBytes (nameBytes name) ≡ true
+  -- all of them are name bytes
+  pub bytes-named : allNameBytes (nameBytes name) ≡ true
   unfolding allNameBytes nameBytes
   bytes-named =
       all-true (length (nameBytes name)) (λ k. nameByte (getD (nameBytes name) k 0))
@@ -99,7 +101,8 @@ pub padded-bytes : (name : List ℕ) → nameOk name ≡ true → padded (nameBy
 padded-bytes name e = bytes-fill name (name-formed name e)
 
 module _ (bytes : List ℕ) (named : allNameBytes bytes ≡ true) (few : length bytes ≤ 8) where
-  padded-long : length (padded bytes) ≡ 8
+  -- padding gives eight places
+  pub padded-long : length (padded bytes) ≡ 8
   padded-long = length-append bytes (replicate (8 - length bytes) 0) ∙ ap (λ (k : ℕ). length bytes + k) (length-replicate (8 - length bytes) 0) ∙ omega arith
 
   -- the bytes stand before the first zero
@@ -109,7 +112,8 @@ module _ (bytes : List ℕ) (named : allNameBytes bytes ≡ true) (few : length 
       ap (λ (b : ℕ). eqb b 0) (List·getD-append bytes (replicate (8 - length bytes) 0) 0 k h)
       ∙ byte-positive (getD bytes k 0) (all-at (length bytes) (λ j. nameByte (getD bytes j 0)) named k h)
 
-  length-padded : nameLength (padded bytes) ≡ length bytes
+  -- the padded name ends where the bytes do
+  pub length-padded : nameLength (padded bytes) ≡ length bytes
   unfolding nameLength
   length-padded = go (decLe 8 (length bytes))
     where

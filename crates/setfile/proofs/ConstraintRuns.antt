@@ -32,8 +32,8 @@ use Rattle.setfile.specs.Load.{refusal, goingOn, andThen, constraintDone
 use Rattle.setfile.specs.Write.{fieldOf, readLiteral, outputLiteral, joined, literalBody}
 use Rattle.setfile.proofs.Places.{mask}
 use Rattle.setfile.proofs.Joins.{worth, told, literal, joined-long}
-use Rattle.setfile.proofs.Marks.{size}
-use Rattle.setfile.proofs.FineBits.{Fine, fine}
+use Rattle.setfile.proofs.OneLiteral.{size}
+use Rattle.setfile.proofs.ConstraintBits.{Fine, fine}
 use Rattle.setfile.proofs.LiteralsBack.{literals-back}
 use Rattle.setfile.proofs.LiteralsTaken.{literals-taken}
 use Rattle.setfile.proofs.HeaderLaws.{table-bounds, due-is}

@@ -6,8 +6,8 @@ pub mod BodyLaws
 pub mod WriteLaws
 pub mod Places
 pub mod Joins
-pub mod Marks
-pub mod FineBits
+pub mod OneLiteral
+pub mod ConstraintBits
 pub mod LiteralsBack
 pub mod LiteralsTaken
 pub mod Fields

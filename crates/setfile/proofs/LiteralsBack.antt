@@ -20,8 +20,8 @@ use Rattle.setfile.specs.Literal.{literalsFrom, literalsOf}
 use Rattle.setfile.specs.Write.{joined, literalBody}
 use Rattle.setfile.proofs.Places.{byte, placeOf, mask, added, alike, alike-true, unlike, bit-hit, bit-sign, bit-miss, rank-hit, rank-miss}
 use Rattle.setfile.proofs.Joins.{worth, told, literal, placed, room, placed-at, by-place, body-placed}
-use Rattle.setfile.proofs.FineBits.{Fine, fine}
-use Rattle.setfile.proofs.Marks.{size, Below, below-zero, below-added, literal-taken}
+use Rattle.setfile.proofs.ConstraintBits.{Fine, fine}
+use Rattle.setfile.proofs.OneLiteral.{size, Below, below-zero, below-added, literal-taken}
 
 -- ---- the places one by one
 

@@ -26,7 +26,7 @@ use Rattle.setfile.specs.Literal.{isOutput, isNegated, number, place, is
 use Rattle.setfile.specs.Write.{joined, literalBody}
 use Rattle.setfile.proofs.Places.{byte, byte-is, placeOf, place-says, mask, added, with-added, alike, alike-true, bit-hit, bit-sign, bit-else, bit-miss, rank-hit, rank-miss}
 use Rattle.setfile.proofs.Joins.{room, placed, body-placed, joined-same}
-use Rattle.setfile.proofs.Marks.{size, Below, below-zero, below-added, blank-place, body-added, literal-is}
+use Rattle.setfile.proofs.OneLiteral.{size, Below, below-zero, below-added, blank-place, body-added, literal-is}
 
 -- a rank is a byte, and zero where the output is not named
 abbrev Ranked : Constraint → ℕ → Type 0

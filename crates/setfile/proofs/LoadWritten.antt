@@ -14,7 +14,7 @@ use Rattle.words.proofs.Loops.{all-at}
 use Rattle.scan.specs.declared.set.Set.{Set}
 use Rattle.scan.specs.Set.{zeroSet, zeroConstraint, noConstraint, readPoint, outputPoint, constraint}
 use Rattle.scan.specs.Shape.{countTests, constraintTests, constraintZero, constraintPlace, setTests, wellFormed}
-use Rattle.scan.proofs.Formed.{counts, beyond-zero}
+use Rattle.scan.proofs.Formed.{constraint-ok, counts, beyond-zero}
 use Rattle.scan.proofs.Points.{points-formed}
 use Rattle.setfile.specs.declared.loader.LoadAnswer.the-variants.{Loaded}
 use Rattle.setfile.specs.declared.loader.Loading.{Loading}
@@ -51,12 +51,8 @@ module _ (s : Set) (ok : wellFormed s ≡ true) where
   counts-pass = let c = counts s ok in rw (le-leb (s .r) 16 (c .r-le), le-leb 1 (s .n) (c .n-pos), le-leb (s .n) 12 (c .n-le), le-leb (s .r + s .n) 24 (c .sum-le))
 
   constraint-fits : (k : ℕ) → k < s .m → every (constraintTests (s .r) (s .n) (getD (s .constraints) k noConstraint)) ≡ true
-  unfolding wellFormed setTests constraintPlace constraint
-  constraint-fits k h =
-      let c = getD (s .constraints) k noConstraint in
-      let few = counts s ok .m-le in
-      cond-true (ltb k (s .m)) (every (constraintTests (s .r) (s .n) c)) (constraintZero c) (lt-ltb k (s .m) h)
-      ∙ all-at 64 (constraintPlace s) (every-at (setTests s) ok 4) k (omega arith)
+  unfolding constraint
+  constraint-fits = constraint-ok s ok
 
   constraint-rest : (k : ℕ) → s .m ≤ k → k < 64 → getD (s .constraints) k noConstraint ≡ zeroConstraint
   unfolding constraint

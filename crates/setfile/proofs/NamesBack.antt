@@ -15,66 +15,35 @@ use Rattle.words.proofs.Loops.{all-true, all-at, first-spec}
 use Rattle.scan.specs.declared.names.NameRead.{NameRead}
 use Rattle.scan.specs.Names.{nameByte, allNameBytes, padded, lengthOk, nameRead, zeroAt, nameLength, nameBytes, placeOk, nameOk}
 use Rattle.scan.proofs.Points.{name-formed}
-use Rattle.scan.proofs.Naming.{padded-bytes, bytes-padded}
+use Rattle.scan.proofs.Finds.{spell-name}
+use Rattle.scan.proofs.Naming.{bytes-long, bytes-named, padded-bytes, padded-long, length-padded, bytes-padded}
 
 -- A well-formed name has 1 to 8 bytes.
 pub name-bounds : (name : List ℕ) → nameOk name ≡ true → (1 ≤ length (nameBytes name)) × (length (nameBytes name) ≤ 8)
-unfolding nameBytes
 name-bounds name e =
     let f = name-formed name e in
-    let long = f .long in
-    let few = f .few in
-    let some = f .some in
-    let l : length (take (nameLength name) name) ≡ nameLength name = length-take-le (nameLength name) name (omega arith) in
-    (omega arith, omega arith)
-
--- All of them are name bytes.
-pub bytes-named : (name : List ℕ) → nameOk name ≡ true → allNameBytes (nameBytes name) ≡ true
-unfolding allNameBytes nameBytes placeOk
-bytes-named name e =
-    let f = name-formed name e in
-    let long = f .long in
-    let few = f .few in
-    let l : length (take (nameLength name) name) ≡ nameLength name = length-take-le (nameLength name) name (omega arith) in
-    all-true (length (take (nameLength name) name)) (λ k. nameByte (getD (take (nameLength name) name) k 0))
-    (λ k h. let i : k < nameLength name = omega arith in
-    ap nameByte (getD-take (nameLength name) name k 0 i)
-    ∙ cond-true (ltb k (nameLength name)) (nameByte (getD name k 0)) (zeroAt name k) (lt-ltb k (nameLength name) i) ∙ f .places k (omega arith))
-
--- Bytes that pass the tests are read as the name that padding gives.
-name-good : (bytes : List ℕ) → 1 ≤ length bytes → length bytes ≤ 8 → allNameBytes bytes ≡ true → nameRead bytes ≡ record { good = true; name = padded bytes }
-unfolding nameRead
-name-good bytes some few named = rw (le-leb 1 (length bytes) some, le-leb (length bytes) 8 few, named)
+    let l = bytes-long name f in
+    (omega (arith, f .some), omega (arith, f .few))
 
 -- A well-formed name is read back.
 pub name-back : (name : List ℕ) → nameOk name ≡ true → nameRead (nameBytes name) ≡ record { good = true; name = name }
 name-back name e =
     let b = name-bounds name e in
-    name-good (nameBytes name) (b .0) (b .1) (bytes-named name e) ∙ ap (λ (n : List ℕ). record { good = true; name = n }) (padded-bytes name e)
+    sym (spell-name (nameBytes name) (b .0) (b .1) (bytes-named name (name-formed name e))) ∙ ap (λ (n : List ℕ). record { good = true; name = n }) (padded-bytes name e)
 
 module _ (bytes : List ℕ) (some : 1 ≤ length bytes) (few : length bytes ≤ 8) (named : allNameBytes bytes ≡ true) where
-  long : length (padded bytes) ≡ 8
-  long = length-append bytes (replicate (8 - length bytes) 0) ∙ ap (λ (k : ℕ). length bytes + k) (length-replicate (8 - length bytes) 0) ∙ omega arith
-
-  ends : nameLength (padded bytes) ≡ length bytes
-  unfolding nameLength nameBytes
-  ends =
-      let w = first-spec 8 (zeroAt (padded bytes)) .within in
-      let l = long in
-      sym (length-take-le (nameLength (padded bytes)) (padded bytes) (omega arith)) ∙ ap length (bytes-padded bytes named few)
-
   place-ok : (k : ℕ) → k < 8 → placeOk (padded bytes) k ≡ true
   unfolding placeOk allNameBytes
   place-ok k h = go (decLt k (length bytes))
     where
       go : Dec (k < length bytes) → cond (ltb k (nameLength (padded bytes))) (nameByte (getD (padded bytes) k 0)) (zeroAt (padded bytes) k) ≡ true
       go (yes l) =
-          let e = ends in
+          let e = length-padded bytes named few in
           sym (cond-true (ltb k (nameLength (padded bytes))) (nameByte (getD (padded bytes) k 0)) (zeroAt (padded bytes) k) (lt-ltb k (nameLength (padded bytes)) (omega arith)))
           ∙ ap nameByte (List·getD-append bytes (replicate (8 - length bytes) 0) 0 k l)
           ∙ all-at (length bytes) (λ j. nameByte (getD bytes j 0)) named k l
       go (no l) =
-          let e = ends in
+          let e = length-padded bytes named few in
           let i = k - length bytes in
           let same : length bytes + i ≡ k = omega arith in
           sym (cond-false (ltb k (nameLength (padded bytes))) (nameByte (getD (padded bytes) k 0)) (zeroAt (padded bytes) k) (le-ltb k (nameLength (padded bytes)) (omega arith)))
@@ -84,8 +53,8 @@ module _ (bytes : List ℕ) (some : 1 ≤ length bytes) (few : length bytes ≤ 
   padded-ok : nameOk (padded bytes) ≡ true
   unfolding nameOk
   padded-ok =
-      let e = ends in
-      rw (eq-eqb (length (padded bytes)) 8 long, lt-ltb 0 (nameLength (padded bytes)) (omega arith), all-true 8 (placeOk (padded bytes)) place-ok)
+      let e = length-padded bytes named few in
+      rw (eq-eqb (length (padded bytes)) 8 (padded-long bytes named few), lt-ltb 0 (nameLength (padded bytes)) (omega arith), all-true 8 (placeOk (padded bytes)) place-ok)
 
 pub record NameTaken (bytes : List ℕ) : Type 0 where
   pub name-ok : nameOk (nameRead bytes .name) ≡ true
@@ -96,7 +65,7 @@ pub name-taken : (bytes : List ℕ) → 1 ≤ length bytes → length bytes ≤ 
 unfolding nameRead
 name-taken bytes some few e =
     let named = tested (lengthOk bytes) (allNameBytes bytes) e in
-    let n : nameRead bytes .name ≡ padded bytes = ap (λ (r : NameRead). r .name) (name-good bytes some few named) in
+    let n : nameRead bytes .name ≡ padded bytes = ap (λ (r : NameRead). r .name) (sym (spell-name bytes some few named)) in
     record { name-ok = ap nameOk n ∙ padded-ok bytes some few named; same = ap nameBytes n ∙ bytes-padded bytes named few }
   where
     tested : (a b : Bool) → cond {A = NameRead} (a && b) (record { good = true; name = padded bytes }) (record { good = false; name = replicate 8 0 }) .good ≡ true → b ≡ true

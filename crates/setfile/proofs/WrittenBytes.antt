@@ -21,13 +21,13 @@ use Rattle.scan.specs.Set.{readPoint, outputPoint, constraint, noRead, noOutput
 use Rattle.scan.specs.Names.{nameByte, allNameBytes, nameBytes, nameOk}
 use Rattle.scan.specs.Shape.{isSensor, kindOk, wellFormed}
 use Rattle.scan.proofs.Formed.{Masks, rank-lt, counts, masks}
-use Rattle.scan.proofs.Points.{points-formed}
+use Rattle.scan.proofs.Points.{name-formed, points-formed}
 use Rattle.setfile.specs.Bytes.{Bytes}
 use Rattle.setfile.specs.Write.{fieldOf, kindBytes, readBody, outputBody, readLiteral, outputLiteral, joined, literalBody, fieldsOf, writeOf}
 use Rattle.setfile.proofs.Places.{byte, mask, by-four}
 use Rattle.setfile.proofs.Joins.{worth, told, literal}
 use Rattle.setfile.proofs.HeaderLaws.{table-bounds}
-use Rattle.setfile.proofs.NamesBack.{bytes-named}
+use Rattle.scan.proofs.Naming.{bytes-named}
 use Rattle.setfile.proofs.PointsFit.{read-fits, output-fits}
 use Rattle.setfile.proofs.PointKinds.{reads-give, outputs-give}
 use Rattle.setfile.proofs.ConstraintRuns.{body-fits}
@@ -74,7 +74,7 @@ of-name : (name : List ℕ) → nameOk name ≡ true → Bytes (nameBytes name)
 unfolding allNameBytes nameByte
 of-name name ok k h =
     let b = getD (nameBytes name) k 0 in
-    let t = all-at (length (nameBytes name)) (λ j. nameByte (getD (nameBytes name) j 0)) (bytes-named name ok) k h in
+    let t = all-at (length (nameBytes name)) (λ j. nameByte (getD (nameBytes name) j 0)) (bytes-named name (name-formed name ok)) k h in
     let l : b ≤ 0x7E = leb-true b 0x7E (and-true (leb 0x21 b) (leb b 0x7E) t .1) in
     omega arith
 

@@ -1,0 +1,15 @@
+//! A second implementation of the ranked safety filter of document 01, made
+//! to compare the proved one with. It follows the paper's sentences literal by
+//! literal and is meant to be read beside it, not to be fast.
+
+pub mod chance;
+pub mod damage;
+pub mod file;
+pub mod filter;
+pub mod finding;
+pub mod machine;
+pub mod making;
+pub mod program;
+pub mod records;
+pub mod set;
+pub mod verdict;
