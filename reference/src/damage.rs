@@ -53,7 +53,7 @@ fn counts_only() -> Vec<Vec<u8>> {
 }
 
 /// Every shorter front of a file.
-fn truncated(good: &[u8]) -> Vec<Vec<u8>> {
+pub fn truncated(good: &[u8]) -> Vec<Vec<u8>> {
     (0..good.len()).map(|end| good[..end].to_vec()).collect()
 }
 

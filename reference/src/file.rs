@@ -165,7 +165,9 @@ fn constraint(field: &Field, set: &Set) -> Result<Constraint, Refusal> {
         let Some(literal) = literal(pair[0], pair[1], set) else {
             return field.refuse(9);
         };
-        let rises = literals.last().is_none_or(|last| last.point < literal.point);
+        let rises = literals
+            .last()
+            .is_none_or(|last| last.point < literal.point);
         field.need(rises, 10)?;
         literals.push(literal);
     }
@@ -205,7 +207,11 @@ fn end(field: &Field, file: &[u8]) -> Result<(), Refusal> {
 /// The file of a set.
 pub fn write(set: &Set) -> Vec<u8> {
     let mut file = Vec::new();
-    put_field(&mut file, COUNTS, &[low(set.reads.len()), low(set.outputs.len())]);
+    put_field(
+        &mut file,
+        COUNTS,
+        &[low(set.reads.len()), low(set.outputs.len())],
+    );
     for point in &set.reads {
         let (kind, index) = match point.kind {
             Kind::Sensor => (0, 0),

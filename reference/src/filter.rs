@@ -93,7 +93,11 @@ pub fn pass(set: &Set, reads: &[bool], holds: &[Hold], vector: &[bool]) -> Vec<b
             }
         }
     }
-    vector.iter().zip(flipped).map(|(&v, flip)| v != flip).collect()
+    vector
+        .iter()
+        .zip(flipped)
+        .map(|(&v, flip)| v != flip)
+        .collect()
 }
 
 /// The outputs of a constraint that yield: its unheld ones of lowest rank.

@@ -1,7 +1,7 @@
 //! The scan machine: start, and scan with refusals 31 to 33.
 
 use crate::filter::{walk, Walk};
-use crate::set::{bits, word, Kind, Set};
+use crate::set::{bits, word, Kind, ReadPoint, Set};
 use crate::verdict::{judge, Verdict};
 
 /// A set and what the scan before sent and sensed.
@@ -84,14 +84,14 @@ fn fitting(value: u32, count: usize) -> Option<Vec<bool>> {
 /// The bits of a sensor word in width and with no bit at a past point.
 fn sensed(set: &Set, sensor: u32) -> Option<Vec<bool>> {
     let sensed = fitting(sensor, set.reads.len())?;
-    let at_past = |(point, &bit): (&crate::set::ReadPoint, &bool)| bit && point.kind != Kind::Sensor;
+    let at_past = |(point, &bit): (&ReadPoint, &bool)| bit && point.kind != Kind::Sensor;
     let bad = set.reads.iter().zip(&sensed).any(at_past);
     (!bad).then_some(sensed)
 }
 
 /// The read word of a scan: what is sensed, past points filled from the state.
 fn read_bits(state: &State, sensed: &[bool]) -> Vec<bool> {
-    let value = |(number, point): (usize, &crate::set::ReadPoint)| match point.kind {
+    let value = |(number, point): (usize, &ReadPoint)| match point.kind {
         Kind::Sensor => sensed[number],
         Kind::PastOutput(index) => state.past_output[index],
         Kind::PastSensor(index) => state.past_sensor[index],

@@ -126,7 +126,8 @@ fn any_name(chance: &mut Chance) -> Vec<u8> {
 
 /// The name of a point with one byte more, less or changed.
 fn look_alike(chance: &mut Chance, set: &Set) -> Vec<u8> {
-    let names: Vec<&Vec<u8>> = set.reads.iter().map(|p| &p.name).collect();
+    let reads = set.reads.iter().map(|p| &p.name);
+    let names: Vec<&Vec<u8>> = reads.chain(&set.outputs).collect();
     if names.is_empty() {
         return any_name(chance);
     }

@@ -105,7 +105,13 @@ fn corpus(chance: &mut Chance) -> Corpus {
     for file in damage::fixed() {
         corpus.add(chance, file);
     }
-    while corpus.refused_in_all() < DAMAGED {
+    for _ in 0..3 {
+        let good = small_set(chance, Recipe::Bent);
+        for file in damage::truncated(&good) {
+            corpus.add(chance, file);
+        }
+    }
+    for _ in 0..150 {
         let good = small_set(chance, Recipe::Planted);
         for file in damage::by_chance(chance, &good, 10) {
             corpus.add(chance, file);
@@ -181,13 +187,21 @@ fn add_small(corpus: &mut Corpus, chance: &mut Chance) {
 fn small_set(chance: &mut Chance, recipe: Recipe) -> Vec<u8> {
     let (r, n) = match recipe {
         Recipe::Chain => (chance.between(0, 3), chance.between(2, 6)),
-        _ => (chance.between(0, 6), chance.between(1, 6)),
+        _ => small_size(chance),
     };
     let m = match recipe {
         Recipe::Loose => chance.between(0, 2 * n),
         _ => number_of_constraints(chance),
     };
     write(&set(chance, recipe, r, n, m))
+}
+
+fn small_size(chance: &mut Chance) -> (usize, usize) {
+    match chance.below(8) {
+        0 => (chance.between(0, 4), chance.between(6, 8)),
+        1 => (chance.between(6, 9), chance.between(1, 3)),
+        _ => (chance.between(0, 6), chance.between(1, 6)),
+    }
 }
 
 fn number_of_constraints(chance: &mut Chance) -> usize {

@@ -1,0 +1,266 @@
+//! Document 01's "Tried by hand", starred and unstarred cases.
+
+use reference::damage::P;
+use reference::file::{load, Refusal};
+use reference::filter::holds;
+use reference::machine::{scan, start, ScanRefusal, Sent, State};
+use reference::program::line;
+use reference::set::{Constraint, Kind, Literal, Point, ReadPoint, Set};
+use reference::verdict::{judge, Verdict};
+
+/// A read literal, plain or negated.
+fn read(number: usize, negated: bool) -> Literal {
+    Literal {
+        point: Point::Read(number),
+        negated,
+        rank: 0,
+    }
+}
+
+/// An output literal with its rank.
+fn out(number: usize, negated: bool, rank: u8) -> Literal {
+    Literal {
+        point: Point::Output(number),
+        negated,
+        rank,
+    }
+}
+
+/// Read points r0, r1, ... of these kinds, n outputs, and the constraints.
+fn set(kinds: &[Kind], n: usize, constraints: &[&[Literal]]) -> Set {
+    let point = |(number, kind): (usize, &Kind)| ReadPoint {
+        kind: *kind,
+        name: format!("r{number}").into_bytes(),
+    };
+    Set {
+        reads: kinds.iter().enumerate().map(point).collect(),
+        outputs: (0..n).map(|k| format!("o{k}").into_bytes()).collect(),
+        constraints: constraints
+            .iter()
+            .map(|literals| Constraint {
+                literals: literals.to_vec(),
+            })
+            .collect(),
+    }
+}
+
+fn p() -> Set {
+    load(&P).expect("P loads")
+}
+
+/// The answer of the first scan from a start.
+fn first(set: &Set, sensor: u32, request: u16) -> Result<Sent, ScanRefusal> {
+    let mut state = start(set).expect("the set is accepted");
+    scan(&mut state, sensor, request)
+}
+
+fn sent(vector: u32, passes: u32) -> Result<Sent, ScanRefusal> {
+    Ok(Sent { vector, passes })
+}
+
+fn refusal(file: &[u8]) -> Option<(u8, usize)> {
+    let refused = |refusal: Refusal| (refusal.number, refusal.offset);
+    load(file).err().map(refused)
+}
+
+#[test]
+fn p_is_accepted() {
+    assert_eq!(P.len(), 39);
+    assert_eq!(line(&P), "ACCEPT 1 2 2\n");
+    let set = p();
+    assert_eq!(set.reads[0].name, b"007");
+    assert_eq!(set.outputs, vec![b"07".to_vec(), b"7".to_vec()]);
+}
+
+#[test]
+fn p_at_read_word_0() {
+    assert_eq!(first(&p(), 0, 1), sent(0, 1));
+    assert_eq!(first(&p(), 0, 3), sent(3, 0));
+}
+
+#[test]
+fn p_at_read_word_1() {
+    let held = holds(&p(), &[true]);
+    assert_eq!(held.iter().filter(|hold| !hold.is_held()).count(), 1);
+    assert_eq!(first(&p(), 1, 3), sent(0, 1));
+    assert_eq!(first(&p(), 1, 2), sent(0, 0));
+}
+
+#[test]
+fn p_with_ranks_exchanged() {
+    let mut file = P;
+    file[33] = 1;
+    file[35] = 0;
+    let set = load(&file).expect("it loads");
+    assert_eq!(first(&set, 0, 1), sent(3, 1));
+    assert_eq!(first(&set, 1, 1), sent(0, 1));
+}
+
+#[test]
+fn both_ways_has_no_vector() {
+    let set = set(
+        &[Kind::Sensor],
+        1,
+        &[
+            &[read(0, false), out(0, true, 0)],
+            &[read(0, false), out(0, false, 0)],
+        ],
+    );
+    assert_eq!(judge(&set), Verdict::NoVector(1));
+    assert_eq!(start(&set), Err(Verdict::NoVector(1)));
+}
+
+fn endless() -> Set {
+    set(
+        &[],
+        2,
+        &[
+            &[out(0, false, 1), out(1, true, 0)],
+            &[out(0, false, 1), out(1, false, 0)],
+        ],
+    )
+}
+
+#[test]
+fn endless_walk_is_rejected() {
+    assert_eq!(judge(&endless()), Verdict::NoEnd(0, 1));
+    assert_eq!(start(&endless()), Err(Verdict::NoEnd(0, 1)));
+}
+
+#[test]
+fn equal_ranks_flip_together() {
+    let set = set(&[], 2, &[&[out(0, false, 4), out(1, false, 4)]]);
+    assert_eq!(first(&set, 0, 3), sent(0, 1));
+}
+
+#[test]
+fn two_constraints_in_one_pass() {
+    let set = set(
+        &[],
+        3,
+        &[
+            &[out(0, false, 0), out(1, false, 1)],
+            &[out(0, false, 1), out(2, false, 0)],
+        ],
+    );
+    assert_eq!(first(&set, 0, 7), sent(2, 1));
+}
+
+fn edge() -> Set {
+    set(
+        &[Kind::Sensor, Kind::PastSensor(0)],
+        1,
+        &[&[read(0, false), read(1, true), out(0, false, 0)]],
+    )
+}
+
+#[test]
+fn edge_of_a_sensor() {
+    let mut state = start(&edge()).expect("the set is accepted");
+    assert_eq!(scan(&mut state, 1, 1), sent(0, 0));
+    assert_eq!(scan(&mut state, 1, 1), sent(1, 0));
+}
+
+#[test]
+fn unstarred_cases() {
+    assert_eq!(refusal(&[]), Some((1, 0)));
+    assert_eq!(refusal(&P[..38]), Some((1, 36)));
+    assert_eq!(refusal(&[P.as_slice(), &[0]].concat()), Some((12, 39)));
+}
+
+#[test]
+fn counts() {
+    // Good counts let the loader go on, to the end of the file at 5.
+    assert_eq!(refusal(&[1, 0, 2, 16, 8]), Some((1, 5)));
+    assert_eq!(refusal(&[1, 0, 2, 16, 9]), Some((5, 0)));
+    for r in 0..=255 {
+        assert_eq!(refusal(&[1, 0, 2, r, 0]), Some((5, 0)));
+        assert_eq!(refusal(&[1, 0, 2, r, 13]), Some((5, 0)));
+    }
+}
+
+#[test]
+fn program_lines() {
+    assert_eq!(line(&[]), "LOAD 1 0\n");
+    let long = [P.as_slice(), &[0; 5000]].concat();
+    assert_eq!(line(&long), "LOAD 12 39\n");
+    let file = reference::file::write(&endless());
+    assert_eq!(line(&file), "NOEND 0 1\n");
+}
+
+#[test]
+fn program_reads_4096_bytes() {
+    // A field that ends after byte 4,096 runs past the end for the program.
+    let mut file = vec![1, 0, 2, 0, 1, 3, 0x10, 0x00];
+    file.extend(vec![b'x'; 4096]);
+    assert_eq!(refusal(&file), Some((4, 5)));
+    assert_eq!(line(&file), "LOAD 1 5\n");
+}
+
+#[test]
+fn refused_words() {
+    let mut state = start(&edge()).expect("the set is accepted");
+    let before = state.clone();
+    for (sensor, request, number) in [
+        (2, 0, 31),
+        (3, 2, 31),
+        (4, 0, 31),
+        (1 << 31, 0, 31),
+        (0, 2, 32),
+        (1, 0x8001, 32),
+    ] {
+        let refused = scan(&mut state, sensor, request).map_err(ScanRefusal::number);
+        assert_eq!(refused, Err(number));
+        assert_eq!(state, before);
+    }
+    // The past of a refused scan is not read: the edge is still to come.
+    assert_eq!(scan(&mut state, 1, 1), sent(0, 0));
+}
+
+#[test]
+fn refused_scan_between_two() {
+    let mut state = start(&edge()).expect("the set is accepted");
+    assert_eq!(scan(&mut state, 1, 1), sent(0, 0));
+    assert_eq!(scan(&mut state, 0, 2), Err(ScanRefusal::Request));
+    assert_eq!(scan(&mut state, 1, 1), sent(1, 0));
+}
+
+#[test]
+fn past_output_is_what_was_sent() {
+    // Output 0 may not be on in two scans running.
+    let set = set(
+        &[Kind::PastOutput(0)],
+        1,
+        &[&[read(0, false), out(0, false, 9)]],
+    );
+    let mut state = start(&set).expect("the set is accepted");
+    let answers: Vec<_> = (0..4).map(|_| scan(&mut state, 0, 1)).collect();
+    assert_eq!(answers, [sent(1, 0), sent(0, 0), sent(1, 0), sent(0, 0)]);
+}
+
+#[test]
+fn endless_walk_in_a_state_no_start_gave() {
+    let mut state = State::fresh(&endless());
+    let before = state.clone();
+    assert_eq!(scan(&mut state, 0, 1), Err(ScanRefusal::NeverSafe));
+    assert_eq!(scan(&mut state, 0, 3).map_err(ScanRefusal::number), Err(33));
+    assert_eq!(state, before);
+    assert_eq!(scan(&mut state, 0, 2), sent(2, 0));
+}
+
+#[test]
+fn constraint_with_all_outputs_held_flips_nothing() {
+    // A and B held on at s; "A and B" is then true for good: 22 at word 1.
+    let set = set(
+        &[Kind::Sensor],
+        2,
+        &[
+            &[read(0, false), out(0, true, 0)],
+            &[read(0, false), out(1, true, 0)],
+            &[out(0, false, 0), out(1, false, 1)],
+        ],
+    );
+    assert_eq!(judge(&set), Verdict::NoVector(1));
+    let mut state = State::fresh(&set);
+    assert_eq!(scan(&mut state, 1, 0), Err(ScanRefusal::NeverSafe));
+}
