@@ -1,0 +1,50 @@
+-- `cases::print_reads` does nothing undefined and ends. Assumes nothing.
+use Prim.Native.Nat.{_≤_, _-_}
+use borrow.Author.Needs.{needs}
+use Rattle.cases.proofs.print_reads.Statement.{statement}
+use Rattle.cases.proofs.print_reads.Tie as tie
+
+abbrev Inv-loop : tie.InvT-loop
+Inv-loop set r k₀ k = k ≤ 16
+
+abbrev μ-loop : tie.MeasureT-loop
+μ-loop set r k₀ k = 16 - k
+
+loop-holds : tie.Need-loop-holds Inv-loop μ-loop
+loop-holds c = search needs
+
+mul-p : tie.Need-mul-p Inv-loop μ-loop
+mul-p c = search needs
+
+element-copy-out-p : tie.Need-element-copy-out-p Inv-loop μ-loop
+element-copy-out-p c = search needs
+
+print-found-requires : tie.Need-print-found-requires Inv-loop μ-loop
+print-found-requires c κs = search needs
+
+add-k : tie.Need-add-k Inv-loop μ-loop
+add-k c = search needs
+
+loop-less : tie.Need-loop-less Inv-loop μ-loop
+loop-less c = search needs
+
+loop-again : tie.Need-loop-again Inv-loop μ-loop
+loop-again c = search needs
+
+returns : tie.Need-returns Inv-loop μ-loop
+returns c = search needs
+
+pub print-reads-spec : {M : Type 1} → statement M
+print-reads-spec =
+    tie.close
+    (tie.spec
+    Inv-loop
+    μ-loop
+    loop-holds
+    mul-p
+    element-copy-out-p
+    print-found-requires
+    add-k
+    loop-less
+    loop-again
+    returns)
