@@ -1,5 +1,7 @@
 // The test program: for each file of a corpus on standard input what loading, writing back, finding each name, the verdict and a list of scans
-// answer, a line each. A corpus is pairs of records of a two-byte length and the bytes: a file, and scans of six bytes each.
+// answer, a line each; before that, cases made by hand. A corpus is pairs of records of a two-byte length and the bytes: a file, and scans of six bytes each.
+mod hand; // sets and states made by hand
+
 use scan::Found;
 use scan::ScanAnswer;
 use scan::Set;
@@ -271,6 +273,7 @@ fn print_pair() -> bool {
 }
 
 fn main() {
+    hand::print_all();
     let mut left = MOST_PAIRS;
     while 0 < left {
         if print_pair() {

@@ -10,6 +10,9 @@ Inv-loop left₀ left = 0 ≤ left
 abbrev μ-loop : tie.MeasureT-loop
 μ-loop left₀ left = left
 
+print-all-requires : tie.Need-print-all-requires Inv-loop μ-loop
+print-all-requires c κs = search needs
+
 loop-holds : tie.Need-loop-holds Inv-loop μ-loop
 loop-holds c = search needs
 
@@ -40,6 +43,7 @@ main-spec =
     (tie.spec
     Inv-loop
     μ-loop
+    print-all-requires
     loop-holds
     print-pair-requires
     sub-left

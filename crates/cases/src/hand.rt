@@ -1,0 +1,348 @@
+// Cases that no file can show: sets and states made by hand, and what is left of lent buffers and scratch.
+use super::print;
+use scan::Found;
+use scan::ScanAnswer;
+use scan::Set;
+use scan::State;
+use setfile::Written;
+use verdict::Verdict;
+
+// What lent bytes hold before a call.
+const FILL: u8 = 0xAA;
+
+const FILE_P: [u8; 39] = [
+    0x01,
+    0x00,
+    0x02,
+    0x01,
+    0x02,
+    0x02,
+    0x00,
+    0x05,
+    0x00,
+    0x00,
+    0x30,
+    0x30,
+    0x37,
+    0x03,
+    0x00,
+    0x02,
+    0x30,
+    0x37,
+    0x03,
+    0x00,
+    0x01,
+    0x37,
+    0x04,
+    0x00,
+    0x04,
+    0x00,
+    0x00,
+    0x41,
+    0x00,
+    0x04,
+    0x00,
+    0x04,
+    0x40,
+    0x00,
+    0xC1,
+    0x01,
+    0x05,
+    0x00,
+    0x00,
+];
+
+// "s and not A", "s and A": a walk at word 1 never is safe.
+const FILE_CLASHING: [u8; 32] = [
+    0x01,
+    0x00,
+    0x02,
+    0x01,
+    0x01,
+    0x02,
+    0x00,
+    0x03,
+    0x00,
+    0x00,
+    0x73,
+    0x03,
+    0x00,
+    0x01,
+    0x41,
+    0x04,
+    0x00,
+    0x04,
+    0x00,
+    0x00,
+    0xC0,
+    0x00,
+    0x04,
+    0x00,
+    0x04,
+    0x00,
+    0x00,
+    0x40,
+    0x00,
+    0x05,
+    0x00,
+    0x00,
+];
+
+fn set_p() -> Set {
+    let loaded = setfile::load(&FILE_P);
+    let set = loaded.set;
+    set
+}
+
+fn set_clashing() -> Set {
+    let loaded = setfile::load(&FILE_CLASHING);
+    let set = loaded.set;
+    set
+}
+
+fn print_test(test: bool) {
+    if test {
+        io::write_all(1, b" yes");
+    } else {
+        io::write_all(1, b" no");
+    }
+}
+
+fn print_number(n: usize) {
+    io::write_all(1, b" ");
+    print(n);
+}
+
+// P with a byte of a name beyond the counts.
+fn stray_name() -> Set {
+    let mut s = set_p();
+    let mut p = s.reads[5];
+    p.name[7] = 1;
+    s.reads[5] = p;
+    s
+}
+
+// P with the rank of an output that its first constraint does not name.
+fn stray_rank() -> Set {
+    let mut s = set_p();
+    let mut c = s.constraints[0];
+    c.ranks[0] = 1;
+    s.constraints[0] = c;
+    s
+}
+
+// P with a constraint beyond the count.
+fn stray_constraint() -> Set {
+    let mut s = set_p();
+    let c = s.constraints[0];
+    s.constraints[63] = c;
+    s
+}
+
+// P with an output both plain and negated.
+fn both_ways() -> Set {
+    let mut s = set_p();
+    let mut c = s.constraints[0];
+    c.out_negated = 2;
+    s.constraints[0] = c;
+    s
+}
+
+fn print_formed() {
+    io::write_all(1, b"well formed:");
+    print_test(scan::well_formed(set_p()));
+    print_test(scan::well_formed(scan::zero_set()));
+    print_test(scan::well_formed(stray_name()));
+    print_test(scan::well_formed(stray_rank()));
+    print_test(scan::well_formed(stray_constraint()));
+    print_test(scan::well_formed(both_ways()));
+    io::write_all(1, b"\n");
+}
+
+// Whether the bytes from `from` on are as they were before a call.
+fn is_filled(buf: &[u8], from: usize) -> bool {
+    let mut same = true;
+    let mut i = from;
+    while i < buf.len() {
+        if buf[i] != FILL {
+            same = false;
+        }
+        i = i + 1;
+    }
+    same
+}
+
+// Writing into a buffer: the answer, and whether bytes from `from` on are untouched.
+fn print_write(set: Set, buf: &mut [u8], from: usize) {
+    let written = setfile::write(set, buf);
+    match written {
+        Written::Wrote(n) => {
+            print_number(0);
+            print_number(n);
+        }
+        Written::BadSet => {
+            print_number(20);
+        }
+        Written::Short(n) => {
+            print_number(24);
+            print_number(n);
+        }
+    }
+    print_test(is_filled(buf, from));
+}
+
+fn print_told(v: Verdict) {
+    match v {
+        Verdict::Accepted => {
+            print_number(0);
+        }
+        Verdict::BadSet => {
+            print_number(20);
+        }
+        Verdict::ShortScratch => {
+            print_number(21);
+        }
+        Verdict::NoVector { word } => {
+            print_number(22);
+            print_number(word as usize);
+        }
+        Verdict::NoEnd { word, request } => {
+            print_number(23);
+            print_number(word as usize);
+            print_number(request as usize);
+        }
+    }
+}
+
+// The verdict and the start with this scratch: the answers, whether bytes from `from` on are untouched, and whether the state is zero.
+fn print_judged(set: Set, scratch: &mut [u8], from: usize) {
+    let v = verdict::judge(set, scratch);
+    print_told(v);
+    print_test(is_filled(scratch, from));
+    let started = verdict::start(set, scratch);
+    print_test(is_filled(scratch, from));
+    let state = started.state;
+    let s = state.set;
+    let w = started.verdict;
+    print_told(w);
+    print_test(s.n == 0);
+}
+
+fn print_found(set: Set, name: &[u8]) {
+    let found = scan::find(set, name);
+    match found {
+        Found::Read(k) => {
+            print_number(0);
+            print_number(k);
+        }
+        Found::Output(k) => {
+            print_number(1);
+            print_number(k);
+        }
+        Found::BadSet => {
+            print_number(20);
+        }
+        Found::BadLength => {
+            print_number(40);
+        }
+        Found::Unknown => {
+            print_number(41);
+        }
+    }
+}
+
+// One scan of a state made by hand: the answer, and the pasts of the state that comes back.
+fn print_scan(set: Set, past_output: u16, past_sensor: u32, sensor: u32, request: u16) {
+    let state = State {
+        set,
+        past_output,
+        past_sensor,
+    };
+    let scanned = scan::scan(state, sensor, request);
+    let answer = scanned.answer;
+    let next = scanned.state;
+    match answer {
+        ScanAnswer::Sent { vector, passes } => {
+            print_number(0);
+            print_number(vector as usize);
+            print_number(passes as usize);
+        }
+        ScanAnswer::BadState => {
+            print_number(30);
+        }
+        ScanAnswer::BadSensor => {
+            print_number(31);
+        }
+        ScanAnswer::BadRequest => {
+            print_number(32);
+        }
+        ScanAnswer::Unsafe => {
+            print_number(33);
+        }
+    }
+    print_number(next.past_output as usize);
+    print_number(next.past_sensor as usize);
+    io::write_all(1, b",");
+}
+
+fn print_writes() {
+    io::write_all(1, b"write:");
+    let mut exact = [FILL; 39];
+    print_write(set_p(), &mut exact, 39);
+    let mut long = [FILL; 64];
+    print_write(set_p(), &mut long, 39);
+    let mut short = [FILL; 38];
+    print_write(set_p(), &mut short, 0);
+    let mut bad = [FILL; 64];
+    print_write(stray_name(), &mut bad, 0);
+    io::write_all(1, b"\n");
+}
+
+fn print_verdicts() {
+    io::write_all(1, b"judge, start:");
+    let mut exact = [FILL; 4];
+    print_judged(set_p(), &mut exact, 4);
+    let mut long = [FILL; 64];
+    print_judged(set_p(), &mut long, 4);
+    let mut short = [FILL; 3];
+    print_judged(set_p(), &mut short, 0);
+    let mut bad = [FILL; 3];
+    print_judged(stray_rank(), &mut bad, 0);
+    let mut two = [FILL; 8];
+    print_judged(set_clashing(), &mut two, 2);
+    io::write_all(1, b"\n");
+}
+
+fn print_finds() {
+    io::write_all(1, b"find:");
+    print_found(set_p(), b"007");
+    print_found(set_p(), b"07");
+    print_found(set_p(), b"7");
+    print_found(set_p(), b"0007");
+    print_found(set_p(), b"7\0");
+    print_found(set_p(), b"");
+    print_found(set_p(), b"123456789");
+    print_found(both_ways(), b"");
+    io::write_all(1, b"\n");
+}
+
+fn print_scans() {
+    io::write_all(1, b"scan:");
+    print_scan(set_p(), 4, 0, 2, 4);
+    print_scan(set_p(), 3, 2, 2, 4);
+    print_scan(stray_constraint(), 0, 0, 0, 0);
+    print_scan(set_p(), 3, 1, 2, 4);
+    print_scan(set_p(), 3, 1, 0, 4);
+    print_scan(set_p(), 3, 1, 1, 3);
+    print_scan(set_clashing(), 1, 0, 1, 0);
+    print_scan(set_clashing(), 1, 1, 0, 1);
+    io::write_all(1, b"\n");
+}
+
+pub fn print_all() {
+    print_formed();
+    print_writes();
+    print_verdicts();
+    print_finds();
+    print_scans();
+}
