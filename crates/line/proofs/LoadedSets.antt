@@ -1,0 +1,23 @@
+-- A loaded set is well formed and has at most 4,096 vectors: with 4,096 bytes of scratch its verdict is neither 20 nor 21, but one of those that mean something.
+-- Assumes nothing.
+use mathlib.Core.Path.{_≡_}
+use mathlib.Core.Bool.{true}
+use mathlib.Core.List.{List}
+use Prim.Native.Nat.{ℕ, _^_, _≤_}
+use native.Mathlib.Omega.{arith}
+use lib.Pow.{pow-mono}
+use Rattle.scan.specs.Shape.{wellFormed}
+use Rattle.scan.proofs.Formed.{counts}
+use Rattle.setfile.specs.Bytes.{Bytes}
+use Rattle.setfile.specs.declared.loader.LoadAnswer.the-variants.{Loaded}
+use Rattle.setfile.specs.Load.{loadOf}
+use Rattle.setfile.proofs.WriteLoaded.{write-loaded}
+use Rattle.verdict.specs.Judge.{judgeOf}
+use Rattle.verdict.specs.Meaning.{Means}
+use Rattle.verdict.proofs.Verdicts.{verdict-means}
+
+pub loaded-judged : (file : List ℕ) (room : ℕ) → Bytes file → 4096 ≤ room → loadOf file .answer ≡ Loaded → Means (loadOf file .set) (judgeOf (loadOf file .set) room)
+loaded-judged file room bytes enough loaded =
+    let ok : wellFormed (loadOf file .set) ≡ true = write-loaded file bytes loaded .1 in
+    let few : 2 ^ loadOf file .set .n ≤ 2 ^ 12 = pow-mono (counts (loadOf file .set) ok .n-le) in
+    verdict-means (loadOf file .set) ok room (omega arith)

@@ -1,0 +1,89 @@
+-- The verdict program's line: its bytes, and the line of a file.
+-- Assumes nothing.
+use Prim.Native.Nat.{ℕ, zero, suc, _+_, _/_, _%_}
+use mathlib.Core.Bool.{cond}
+use mathlib.Core.List.{List, [], _∷_, _++_}
+use lib.Dec.{leb, eqb}
+use lib.ListN.{length, take, drop}
+use Rattle.scan.specs.declared.set.Set.{Set}
+use Rattle.setfile.specs.declared.loader.LoadAnswer.{LoadAnswer}
+use Rattle.setfile.specs.declared.loader.LoadAnswer.the-variants.{Loaded, Refused}
+use Rattle.setfile.specs.Load.{loadOf}
+use Rattle.verdict.specs.declared.verdict.Verdict.{Verdict}
+use Rattle.verdict.specs.declared.verdict.Verdict.the-variants.{Accepted, BadSet, ShortScratch, NoVector as WordNoVector, NoEnd as WordNoEnd}
+use Rattle.verdict.specs.Judge.{judgeOf, looseBytes}
+use Rattle.line.specs.declared.printer.Line.{Line}
+use Rattle.line.specs.declared.printer.Line.the-variants.{Accept, Load, NoVector, NoEnd}
+use Rattle.line.specs.declared.text.Text.{Text}
+
+-- ---- numbers
+
+-- the last digit of a number, in ASCII
+abbrev pub lastDigit : ℕ → ℕ
+lastDigit n = 0x30 + n % 10
+
+-- the digits of a number, none for 0, and at most so many of them
+unfoldable pub leading : ℕ → ℕ → List ℕ
+leading zero n = []
+leading (suc most) n =
+    let more = leading most (n / 10) ++ (lastDigit n ∷ []) in
+    cond (eqb n 0) [] more
+
+-- the decimal digits of a number of at most 20 digits, without leading zeros
+unfoldable pub decimal : ℕ → List ℕ
+decimal n = leading 19 (n / 10) ++ (lastDigit n ∷ [])
+
+-- a space and a number
+unfoldable pub spaced : ℕ → List ℕ
+spaced n = 0x20 ∷ decimal n
+
+-- ---- the line
+
+-- the line's word, its numbers with one space before each, and the line's end
+unfoldable pub lineBytes : Line → List ℕ
+lineBytes (Accept r n m) = (0x41 ∷ 0x43 ∷ 0x43 ∷ 0x45 ∷ 0x50 ∷ 0x54 ∷ []) ++ spaced r ++ spaced n ++ spaced m ++ (0x0A ∷ [])
+lineBytes (Load number offset) = (0x4C ∷ 0x4F ∷ 0x41 ∷ 0x44 ∷ []) ++ spaced number ++ spaced offset ++ (0x0A ∷ [])
+lineBytes (NoVector word) = (0x4E ∷ 0x4F ∷ 0x56 ∷ 0x45 ∷ 0x43 ∷ 0x54 ∷ 0x4F ∷ 0x52 ∷ []) ++ spaced word ++ (0x0A ∷ [])
+lineBytes (NoEnd word request) = (0x4E ∷ 0x4F ∷ 0x45 ∷ 0x4E ∷ 0x44 ∷ []) ++ spaced word ++ spaced request ++ (0x0A ∷ [])
+
+-- the line's length, or 0 where the buffer has fewer bytes
+unfoldable pub lineAnswer : Line → ℕ → ℕ
+lineAnswer l room = let needed = length (lineBytes l) in cond (leb needed room) needed 0
+
+-- the line at the front and later bytes as they were; the buffer as it was where it is shorter than the line
+unfoldable pub bufferAfter : Line → List ℕ → List ℕ
+bufferAfter l buf = let bytes = lineBytes l in cond (leb (length bytes) (length buf)) (bytes ++ drop (length bytes) buf) buf
+
+-- ---- the line of a file
+
+-- the line of a verdict; 20 and 21, which a loaded set with 4,096 bytes of scratch never gets, at offset 0
+abbrev pub verdictLine : Set → Verdict → Line
+verdictLine s Accepted = Accept (s .r) (s .n) (s .m)
+verdictLine s BadSet = Load 20 0
+verdictLine s ShortScratch = Load 21 0
+verdictLine s (WordNoVector word) = NoVector word
+verdictLine s (WordNoEnd word request) = NoEnd word request
+
+-- the line of a load's answer: its refusal, or the line of the verdict on the set with so many bytes of scratch
+abbrev pub answerLine : Set → ℕ → LoadAnswer → Line
+answerLine s room Loaded = verdictLine s (judgeOf s room)
+answerLine s room (Refused number offset) = Load number offset
+
+-- the line of a file, with so many bytes of scratch
+unfoldable pub lineOf : List ℕ → ℕ → Line
+lineOf file room = answerLine (loadOf file .set) room (loadOf file .answer)
+
+-- how many bytes of the scratch are free after a load's answer: none after a refusal, else as many as the verdict leaves free
+abbrev pub answerLoose : Set → ℕ → LoadAnswer → ℕ
+answerLoose s room Loaded = looseBytes s room
+answerLoose s room (Refused number offset) = 0
+
+-- how many bytes of the scratch are free after the line of a file
+unfoldable pub looseOf : List ℕ → ℕ → ℕ
+looseOf file room = answerLoose (loadOf file .set) room (loadOf file .answer)
+
+-- ---- the code's way
+
+-- the bytes of a text
+abbrev pub textBytes : Text → List ℕ
+textBytes t = take (t .len) (t .bytes)

@@ -1,0 +1,69 @@
+// The line is made as a text first, and then put into the lent buffer.
+use super::text::Text;
+use super::text::with_byte;
+use super::text::with_number;
+use super::text::word_text;
+ghost use mathlib.Core.Path.{_≡_};
+ghost use Prim.Native.Nat.{_+_, _≤_};
+ghost use lib.ListN.{length};
+ghost use Rattle.setfile.specs.Write.{putAt};
+ghost use Rattle.line.specs.Line.{lineBytes, lineAnswer, bufferAfter, textBytes};
+
+// Accepted, with the counts of read points, outputs and constraints; or the refusal of the load and its offset; or why the verdict rejects the set.
+pub enum Line {
+    Accept { r: usize, n: usize, m: usize },
+    Load { number: u8, offset: usize },
+    NoVector { word: u32 },
+    NoEnd { word: u32, request: u16 },
+}
+
+// The line's bytes.
+fn line_text(line: Line) -> Text
+    ensures { λ x. ⌜ (x .len ≤ 80) × (textBytes x ≡ lineBytes line) ⌝ }
+{
+    match line {
+        Line::Accept { r, n, m } => {
+            let t = with_number(word_text(*b"ACCEPT\0\0", 6), r);
+            with_byte(with_number(with_number(t, n), m), 0x0A)
+        },
+        Line::Load { number, offset } => {
+            let t = with_number(word_text(*b"LOAD\0\0\0\0", 4), number as usize);
+            with_byte(with_number(t, offset), 0x0A)
+        },
+        Line::NoVector { word } => {
+            let t = word_text(*b"NOVECTOR", 8);
+            with_byte(with_number(t, word as usize), 0x0A)
+        },
+        Line::NoEnd { word, request } => {
+            let t = with_number(word_text(*b"NOEND\0\0\0", 5), word as usize);
+            with_byte(with_number(t, request as usize), 0x0A)
+        },
+    }
+}
+
+// The text at the front of the buffer.
+fn put_text(buf: &mut [u8], text: Text)
+    requires { ⌜ (text .len ≤ 80) × (text .len ≤ length (now buf)) ⌝ }
+    ensures { λ _. ⌜ now (buf .exit) ≡ putAt (now (buf .entry)) 0 (textBytes text) ⌝ }
+{
+    let len = text.len;
+    let mut i: usize = 0;
+    while i < len {
+        buf[i] = text.bytes[i];
+        i = i + 1;
+    }
+}
+
+// The line at the front of the buffer, later bytes untouched, and its length; 0 and the buffer untouched where the buffer is shorter than the line.
+pub fn put_line(line: Line, buf: &mut [u8]) -> usize
+    ensures { λ r. ⌜ r ≡ lineAnswer line (length (now (buf .entry))) ⌝ }
+    ensures { λ r. ⌜ now (buf .exit) ≡ bufferAfter line (now (buf .entry)) ⌝ }
+{
+    let text = line_text(line);
+    let len = text.len;
+    if buf.len() < len {
+        return 0;
+    }
+    put_text(buf, text);
+    len
+}
