@@ -2,6 +2,7 @@
 //! to compare the proved one with. It follows the paper's sentences literal by
 //! literal and is meant to be read beside it, not to be fast.
 
+pub mod by_hand;
 pub mod chance;
 pub mod damage;
 pub mod file;

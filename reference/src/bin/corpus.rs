@@ -1,6 +1,7 @@
 //! `corpus SEED` writes a corpus of set files and scans to standard output,
 //! and a count of what is in it to standard error.
 
+use reference::by_hand;
 use reference::chance::Chance;
 use reference::damage;
 use reference::file::{load, write};
@@ -29,9 +30,13 @@ struct Corpus {
 impl Corpus {
     fn add(&mut self, chance: &mut Chance, file: Vec<u8>) {
         let scans = self.scans_for(chance, &file);
-        self.scans += scans.len();
+        self.put(&Pair { file, scans });
+    }
+
+    fn put(&mut self, pair: &Pair) {
+        self.scans += pair.scans.len();
         // No file made here is too long for a record.
-        if let Some(bytes) = pair_bytes(&Pair { file, scans }) {
+        if let Some(bytes) = pair_bytes(pair) {
             self.bytes.extend(bytes);
         }
     }
@@ -98,6 +103,9 @@ fn main() -> ExitCode {
 
 fn corpus(chance: &mut Chance) -> Corpus {
     let mut corpus = Corpus::default();
+    for pair in by_hand::pairs() {
+        corpus.put(&pair);
+    }
     corpus.add(chance, damage::P.to_vec());
     add_all_sizes(&mut corpus, chance);
     add_large(&mut corpus, chance);
