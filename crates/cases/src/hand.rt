@@ -52,7 +52,7 @@ const FILE_P: [u8; 39] = [
     0x00,
 ];
 
-// "s and not A", "s and A": a walk at word 1 never is safe.
+// "s and not A", "s and A": at word 1 no vector is safe.
 const FILE_CLASHING: [u8; 32] = [
     0x01,
     0x00,
@@ -88,6 +88,40 @@ const FILE_CLASHING: [u8; 32] = [
     0x00,
 ];
 
+// "A and not B", "A and B", B of rank 0 and A of rank 1 in both: the walk from request 1 never is safe, though a safe vector exists.
+const FILE_ENDLESS: [u8; 30] = [
+    0x01,
+    0x00,
+    0x02,
+    0x00,
+    0x02,
+    0x03,
+    0x00,
+    0x01,
+    0x41,
+    0x03,
+    0x00,
+    0x01,
+    0x42,
+    0x04,
+    0x00,
+    0x04,
+    0x40,
+    0x01,
+    0xC1,
+    0x00,
+    0x04,
+    0x00,
+    0x04,
+    0x40,
+    0x01,
+    0x41,
+    0x00,
+    0x05,
+    0x00,
+    0x00,
+];
+
 fn set_p() -> Set {
     let loaded = setfile::load(&FILE_P);
     let set = loaded.set;
@@ -96,6 +130,12 @@ fn set_p() -> Set {
 
 fn set_clashing() -> Set {
     let loaded = setfile::load(&FILE_CLASHING);
+    let set = loaded.set;
+    set
+}
+
+fn set_endless() -> Set {
+    let loaded = setfile::load(&FILE_ENDLESS);
     let set = loaded.set;
     set
 }
@@ -310,6 +350,8 @@ fn print_verdicts() {
     print_judged(stray_rank(), &mut bad, 0);
     let mut two = [FILL; 8];
     print_judged(set_clashing(), &mut two, 2);
+    let mut four = [FILL; 8];
+    print_judged(set_endless(), &mut four, 4);
     io::write_all(1, b"\n");
 }
 
