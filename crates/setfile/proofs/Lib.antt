@@ -1,6 +1,7 @@
 pub mod HeaderLaws
 pub mod LiteralLaws
 pub mod LoadLaws
+pub mod Columns
 pub mod Keeps
 pub mod BodyLaws
 pub mod WriteLaws
