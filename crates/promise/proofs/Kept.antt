@@ -1,157 +1,105 @@
 -- The promises are kept.
 -- Assumes nothing.
-use mathlib.Core.Path.{_≡_, refl, sym, ap, _∙_, subst}
-use mathlib.Core.Bool.{true}
-use mathlib.Core.List.{List, [], _∷_}
-use mathlib.Core.Logic.{_≢_}
-use Prim.Native.Nat.{ℕ, _^_, _≤_, _<_}
-use native.Mathlib.Omega.{arith}
-use lib.Dec.{ltb}
-use borrow.Author.Tests.{ltb-false}
+use mathlib.Core.Path.{_≡_, sym, ap, _∙_}
+use mathlib.Core.Bool.{true, false}
+use mathlib.Core.List.{List, [], _∷_, _++_}
+use mathlib.Core.Logic.{inl, inr, ⊎-elim, _↔_}
+use Prim.Native.Nat.{ℕ, _≤_}
+use lib.ListN.{length, take, drop}
+use lib.Seq.{take-append-seam}
 use Rattle.words.proofs.Bools.{by-test}
 use Rattle.scan.specs.declared.set.Set.{Set}
 use Rattle.scan.specs.declared.set.State.{State}
-use Rattle.scan.specs.declared.machine.ScanAnswer.{ScanAnswer}
-use Rattle.scan.specs.Set.{zeroState}
+use Rattle.scan.specs.declared.machine.Scanned.{Scanned}
+use Rattle.scan.specs.Set.{zeroSet}
 use Rattle.scan.specs.Shape.{wellFormed}
-use Rattle.scan.specs.Machine.{sensorOk, requestOk}
+use Rattle.scan.specs.Machine.{scanOf}
+use Rattle.scan.specs.History.{passesDue}
 use Rattle.scan.specs.Told.{scanTold}
-use Rattle.scan.specs.History.{Call, allowed, run, runState, stateAfter, pastSensor, pastOutput, Right, AllRight}
-use Rattle.scan.proofs.Histories.{all-right, list-state}
-use Rattle.verdict.specs.declared.verdict.Verdict.{Verdict}
-use Rattle.verdict.specs.declared.verdict.Verdict.the-variants.{Accepted, BadSet, ShortScratch, NoVector, NoEnd}
+use Rattle.scan.proofs.Answers.{sends-due, scan-answers, scan-keeps-set}
 use Rattle.verdict.specs.Judge.{judgeOf}
-use Rattle.verdict.specs.Start.{startState, startOf}
-use Rattle.verdict.specs.Told.{verdictTold}
-use Rattle.verdict.specs.Meaning.{Good, Means}
-use Rattle.verdict.proofs.JudgeLaws.{bad-set, short-scratch}
-use Rattle.verdict.proofs.Verdicts.{verdict-of, verdict-means, rejects-exactly}
-use Rattle.promise.specs.Answers.{NeverTold}
-use Rattle.promise.specs.Promise.{ExactVerdict, ExactStart, RightScans, Demand3}
+use Rattle.verdict.specs.Start.{startOf}
+use Rattle.setfile.specs.declared.loader.Loaded.{Loaded}
+use Rattle.setfile.specs.Bytes.{Bytes}
+use Rattle.setfile.specs.Load.{loadOf}
+use Rattle.setfile.specs.Write.{writeOf, writeAnswer, bufferAfter}
+use Rattle.setfile.specs.Told.{loadTold, writeTold}
+use Rattle.setfile.proofs.WriteLoaded.{write-loaded}
+use Rattle.setfile.proofs.FilesAndSets.{formed-iff}
+use Rattle.setfile.proofs.Refusals.{zero-not-loaded}
+use Rattle.promise.specs.Allowed.{StateAllowed, SensorAllowed, RequestAllowed, wordOf}
+use Rattle.promise.specs.Promise.{Answers, Demand1, Demand2, Demand3}
+use Rattle.promise.proofs.FileRefusals.{told-loaded, written-loads, load-refusals, write-refusals}
+use Rattle.promise.proofs.SetRefusals.{verdict-refusals}
+use Rattle.promise.proofs.ScanRefusals.{state-iff, sensor-iff, request-iff, scan-refusals}
+use Rattle.promise.proofs.NameRefusals.{find-refusals}
+use Rattle.promise.proofs.ScanLists.{told-accepted, exact-verdict, exact-start, right-scans}
 
--- ---- a verdict is told by its number and values
+-- ---- demand 1
 
--- two lists that begin with different numbers are not equal
-first-apart : {A : Type 0} (x y : ℕ) (xs ys : List ℕ) → (x ≡ y → ⊥) → x ∷ xs ≡ y ∷ ys → A
-first-apart x y xs ys n e = let f : x ≡ y = cc in absurd (n f)
+formed : (s : Set) → (wellFormed s ≡ true) ↔ ((file : List ℕ) × Bytes file × (loadTold (loadOf file .answer) ≡ 0 ∷ []) × (loadOf file .set ≡ s))
+formed s = (
+  λ ok. let f = formed-iff s .0 ok in (f .0, f .1, ap (λ (l : Loaded). loadTold (l .answer)) (f .2), ap (λ (l : Loaded). l .set) (f .2)),
+  λ f. ap wellFormed (sym (f .3)) ∙ write-loaded (f .0) (f .1) (told-loaded (loadOf (f .0) .answer) (f .2)) .1,
+)
 
-told-accepted : (v : Verdict) → verdictTold v ≡ 0 ∷ [] → v ≡ Accepted
-told-accepted Accepted e = refl
-told-accepted BadSet e = first-apart 20 0 [] [] (λ q. omega arith) e
-told-accepted ShortScratch e = first-apart 21 0 [] [] (λ q. omega arith) e
-told-accepted (NoVector w) e = first-apart 22 0 (w ∷ []) [] (λ q. omega arith) e
-told-accepted (NoEnd w g) e = first-apart 23 0 (w ∷ g ∷ []) [] (λ q. omega arith) e
+zero-not-formed : wellFormed zeroSet ≡ false
+zero-not-formed =
+    by-test (wellFormed zeroSet)
+    (λ ok. let f = formed zeroSet .0 ok in absurd (zero-not-loaded (f .0) (told-loaded (loadOf (f .0) .answer) (f .2)) (f .3)))
+    (λ e. e)
 
-told-word : (v : Verdict) (w : ℕ) → verdictTold v ≡ 22 ∷ w ∷ [] → v ≡ NoVector w
-told-word Accepted w e = first-apart 0 22 [] (w ∷ []) (λ q. omega arith) e
-told-word BadSet w e = first-apart 20 22 [] (w ∷ []) (λ q. omega arith) e
-told-word ShortScratch w e = first-apart 21 22 [] (w ∷ []) (λ q. omega arith) e
-told-word (NoVector u) w e = let f : u ≡ w = cc in ap NoVector f
-told-word (NoEnd u g) w e = first-apart 23 22 (u ∷ g ∷ []) (w ∷ []) (λ q. omega arith) e
-
-told-request : (v : Verdict) (w g : ℕ) → verdictTold v ≡ 23 ∷ w ∷ g ∷ [] → v ≡ NoEnd w g
-told-request Accepted w g e = first-apart 0 23 [] (w ∷ g ∷ []) (λ q. omega arith) e
-told-request BadSet w g e = first-apart 20 23 [] (w ∷ g ∷ []) (λ q. omega arith) e
-told-request ShortScratch w g e = first-apart 21 23 [] (w ∷ g ∷ []) (λ q. omega arith) e
-told-request (NoVector u) w g e = first-apart 22 23 (u ∷ []) (w ∷ g ∷ []) (λ q. omega arith) e
-told-request (NoEnd u h) w g e = cc
-
--- ---- the verdict
-
-module _ (s : Set) (room : ℕ) (ok : wellFormed s ≡ true) (enough : 2 ^ s .n ≤ room) where
-  means : (v : Verdict) → judgeOf s room ≡ v → Means s v
-  means v e = subst (Means s) e (verdict-means s ok room enough)
-
-  is : (v : Verdict) → Means s v → judgeOf s room ≡ v
-  is = verdict-of s ok room enough
-
-  exact-verdict : ExactVerdict s room
-  exact-verdict = record {
-    rejects = (
-      λ n. rejects-exactly s ok room enough .0 (λ e. n (ap verdictTold e)),
-      λ b e. rejects-exactly s ok room enough .1 b (told-accepted (judgeOf s room) e),
-    );
-    accepts = (λ e. means Accepted (told-accepted (judgeOf s room) e), λ m. ap verdictTold (is Accepted m));
-    names-word = λ w. (λ e. means (NoVector w) (told-word (judgeOf s room) w e), λ m. ap verdictTold (is (NoVector w) m));
-    names-request = λ w g. (λ e. means (NoEnd w g) (told-request (judgeOf s room) w g e), λ m. ap verdictTold (is (NoEnd w g) m));
-  }
-
--- ---- the start
-
-start-zero : (s : Set) (v : Verdict) → verdictTold v ≢ 0 ∷ [] → startState s v ≡ zeroState
-start-zero s Accepted n = absurd (n refl)
-start-zero s BadSet n = refl
-start-zero s ShortScratch n = refl
-start-zero s (NoVector w) n = refl
-start-zero s (NoEnd w g) n = refl
-
-exact-start : (s : Set) (room : ℕ) → ExactStart s room
-unfolding startOf
-exact-start s room = record {
-  says = refl;
-  gives = λ e. ap (startState s) (told-accepted (judgeOf s room) e);
-  refuses = start-zero s (judgeOf s room);
+-- Demand 1 is met.
+pub demand-1 : Demand1
+demand-1 = record {
+  loading = load-refusals;
+  writing = write-refusals;
+  verdict = verdict-refusals;
+  scan = scan-refusals;
+  finding = find-refusals;
+  formed = formed;
+  zero-not-formed = zero-not-formed;
 }
 
--- ---- lists of scans
+-- ---- demand 2
 
--- an accepted set is well formed, and had scratch enough
-accepted-formed : (s : Set) (room : ℕ) → judgeOf s room ≡ Accepted → wellFormed s ≡ true
-accepted-formed s room e = by-test (wellFormed s) (λ q. q) (λ q. absurd (never (bad-set s room q ∙ e)))
-  where
-    never : BadSet ≡ Accepted → ⊥
-    never q = let z : _≡_ {A = ℕ} 0 1 = cc in omega arith
+answers : (st : State) (now request : ℕ) → StateAllowed st → SensorAllowed (st .set) now → RequestAllowed (st .set) request → Answers st now request
+answers st now request a b c =
+    ⊎-elim
+    (λ x. inl (
+      sends-due (st .set) (a .0) (wordOf st now) request c (passesDue (st .set) (wordOf st now) request, x .0 .here) (scanOf st now request .answer)
+          (ap (λ (y : Scanned). scanTold (y .answer)) (x .1)),
+      ap (λ (y : Scanned). y .state) (x .1),
+    ))
+    (λ x. inr (x .0, ap (λ (y : Scanned). scanTold (y .answer)) (x .1)))
+    (scan-answers st now request (state-iff st .1 a) (sensor-iff (st .set) now .1 b) (request-iff (st .set) request .1 c))
 
-accepted-enough : (s : Set) (room : ℕ) → judgeOf s room ≡ Accepted → 2 ^ s .n ≤ room
-accepted-enough s room e =
-    by-test (ltb room (2 ^ s .n)) (λ q. absurd (never (short-scratch s room (accepted-formed s room e) (borrow.Author.Tests.ltb-true room (2 ^ s .n) q) ∙ e)))
-    (λ q. ltb-false room (2 ^ s .n) q)
-  where
-    never : ShortScratch ≡ Accepted → ⊥
-    never q = let z : _≡_ {A = ℕ} 0 1 = cc in omega arith
+loads-back : (s : Set) (buf : List ℕ) (size : ℕ) → writeTold (writeAnswer s (length buf)) ≡ 0 ∷ size ∷ []
+    → (loadTold (loadOf (take size (bufferAfter s buf)) .answer) ≡ 0 ∷ []) × (loadOf (take size (bufferAfter s buf)) .set ≡ s)
+loads-back s buf size e =
+    let w = write-refusals s buf in
+    let fits = w .wrote size .0 e in
+    let file : take size (bufferAfter s buf) ≡ writeOf s =
+    ap (take size) (w .front size e) ∙ ap (λ (k : ℕ). take k (writeOf s ++ drop size buf)) (fits .1) ∙ take-append-seam (writeOf s) (drop size buf) in
+    written-loads s (fits .0) (take size (bufferAfter s buf)) (sym file)
 
--- a right scan is not refused with another number than 31 and 32
-never-told : (number : ℕ) → (number ≡ 0 → ⊥) → (number ≡ 31 → ⊥) → (number ≡ 32 → ⊥) → (s : Set) (before : List Call) (c : Call) (a : ScanAnswer)
-    → Right s before c a → scanTold a ≢ number ∷ []
-unfolding allowed
-never-told number n0 n31 n32 s before c a r e =
-    by-test (sensorOk s (c .sensor))
-    (λ p. by-test (requestOk s (c .request))
-    (λ q. first-apart number 0 [] _ n0 (sym e ∙ r .sends (λ i. mathlib.Core.Bool._&&_ (p i) (q i)) .answers))
-    (λ q. first-apart number 32 [] [] n32 (sym e ∙ r .refuses-request p q)))
-    (λ p. first-apart number 31 [] [] n31 (sym e ∙ r .refuses-sensor p))
+writes-back : (file buf : List ℕ) → Bytes file → loadTold (loadOf file .answer) ≡ 0 ∷ [] → length file ≤ length buf
+    → (writeTold (writeAnswer (loadOf file .set) (length buf)) ≡ 0 ∷ length file ∷ []) × (bufferAfter (loadOf file .set) buf ≡ file ++ drop (length file) buf)
+writes-back file buf bytes e h =
+    let back = write-loaded file bytes (told-loaded (loadOf file .answer) e) in
+    let w = write-refusals (loadOf file .set) buf in
+    let told = w .wrote (length file) .1 (back .1, ap length (sym (back .0)), h) in
+    (told, w .front (length file) told ∙ ap (λ (l : List ℕ). l ++ drop (length file) buf) (back .0))
 
-none-told : (number : ℕ) → (number ≡ 0 → ⊥) → (number ≡ 31 → ⊥) → (number ≡ 32 → ⊥) → (s : Set) (before calls : List Call) (answers : List ScanAnswer)
-    → AllRight s before calls answers → NeverTold number answers
-none-told number n0 n31 n32 s before [] [] r = tt
-none-told number n0 n31 n32 s before [] (a ∷ answers) r = absurd r
-none-told number n0 n31 n32 s before (c ∷ calls) [] r = absurd r
-none-told number n0 n31 n32 s before (c ∷ calls) (a ∷ answers) r =
-    (never-told number n0 n31 n32 s before c a (r .0), none-told number n0 n31 n32 s (c ∷ before) calls answers (r .1))
+one-file : (f g : List ℕ) → Bytes f → Bytes g → loadTold (loadOf f .answer) ≡ 0 ∷ [] → loadTold (loadOf g .answer) ≡ 0 ∷ [] → loadOf f .set ≡ loadOf g .set → f ≡ g
+one-file f g bf bg ef eg same =
+    sym (write-loaded f bf (told-loaded (loadOf f .answer) ef) .0) ∙ ap writeOf same ∙ write-loaded g bg (told-loaded (loadOf g .answer) eg) .0
 
-module _ (s : Set) (room : ℕ) (e : judgeOf s room ≡ Accepted) (calls : List Call) where
-  ok : wellFormed s ≡ true
-  ok = accepted-formed s room e
+-- Demand 2 is met.
+pub demand-2 : Demand2
+demand-2 = record { scan = answers; same-set = scan-keeps-set; load-written = loads-back; write-loaded = writes-back; one-file = one-file }
 
-  good : (w : ℕ) → w < 2 ^ s .r → Good s w
-  good = means s room ok (accepted-enough s room e) Accepted e
-
-  -- the state of an accepted start is that before any call
-  started : startOf s room .state ≡ stateAfter s []
-  unfolding startOf pastSensor pastOutput
-  started = ap (startState s) e
-
-  right : AllRight s [] calls (run (startOf s room .state) calls)
-  right =
-      subst (λ (st : State). AllRight s [] calls (run st calls)) (sym started) (all-right s ok (λ w h. good w h .ends) [] calls)
-
-  right-scans : RightScans s room calls
-  right-scans = record {
-    answers = right;
-    state = ap (λ (st : State). runState st calls) started ∙ list-state s ok (λ w h. good w h .ends) [] calls;
-    never-30 = none-told 30 (λ q. omega arith) (λ q. omega arith) (λ q. omega arith) s [] calls (run (startOf s room .state) calls) right;
-    never-33 = none-told 33 (λ q. omega arith) (λ q. omega arith) (λ q. omega arith) s [] calls (run (startOf s room .state) calls) right;
-  }
+-- ---- demand 3
 
 -- Demand 3 is met.
 pub demand-3 : Demand3

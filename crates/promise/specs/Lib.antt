@@ -1,3 +1,4 @@
 pub mod Answers
+pub mod Allowed
 pub mod Promise
 pub mod Cases

@@ -1,21 +1,136 @@
--- The customer's demands. The contracts of the code say that it computes the definitions that stand here: `judgeOf` is the verdict, `startOf` the
--- start, `scanOf` (inside `run`) the scan; `verdictTold` and `scanTold` give document 01's number of an answer, 0 for one that is no refusal,
--- with its values.
+-- The customer's demands. The contracts of the code say that it computes the definitions that stand here: `loadOf` is loading; `writeAnswer` and
+-- `bufferAfter` are writing, and `writeOf` is the file of a set; `judgeOf` is the verdict, and `looseBytes` says how many bytes of its scratch
+-- are free afterwards; `startOf` is the start, `scanOf` the scan, `findOf` finding. `loadTold`, `writeTold`, `verdictTold`, `scanTold` and
+-- `findTold` give document 01's number of an answer, 0 for one that is no refusal, with its values.
+-- Every call ends: a function of Rattle that is proved returns.
 -- Assumes nothing.
 use mathlib.Core.Path.{_≡_}
-use mathlib.Core.Bool.{true}
-use mathlib.Core.List.{List, [], _∷_}
-use mathlib.Core.Logic.{_↔_, _≢_}
+use mathlib.Core.Bool.{true, false}
+use mathlib.Core.List.{List, [], _∷_, _++_}
+use mathlib.Core.Logic.{_↔_, _≢_, _⊎_}
 use Prim.Native.Nat.{ℕ, _^_, _≤_, _<_}
+use lib.ListN.{length, take, drop}
 use Rattle.scan.specs.declared.set.Set.{Set}
-use Rattle.scan.specs.Set.{freshState, zeroState}
+use Rattle.scan.specs.declared.set.State.{State}
+use Rattle.scan.specs.Set.{stateOf, freshState, zeroSet, zeroState}
+use Rattle.scan.specs.Names.{allNameBytes}
 use Rattle.scan.specs.Shape.{wellFormed}
-use Rattle.scan.specs.History.{Call, run, runState, followed, stateAfter, AllRight}
-use Rattle.verdict.specs.Judge.{judgeOf}
+use Rattle.scan.specs.Walk.{Reaches}
+use Rattle.scan.specs.Finding.{findOf}
+use Rattle.scan.specs.Machine.{scanOf}
+use Rattle.scan.specs.Told.{scanTold, findTold}
+use Rattle.scan.specs.History.{Call, Sends, vectorDue, run, runState, followed, stateAfter, AllRight}
+use Rattle.verdict.specs.Judge.{judgeOf, looseBytes}
 use Rattle.verdict.specs.Start.{startOf}
 use Rattle.verdict.specs.Told.{verdictTold}
 use Rattle.verdict.specs.Meaning.{Good, FirstWithout, FirstEndless, Bad}
+use Rattle.setfile.specs.Bytes.{Bytes}
+use Rattle.setfile.specs.Load.{loadOf}
+use Rattle.setfile.specs.Column.{FirstFails, NoneFails, loadTests}
+use Rattle.setfile.specs.Write.{writeOf, writeAnswer, bufferAfter}
+use Rattle.setfile.specs.Told.{loadTold, writeTold}
+use Rattle.promise.specs.Allowed.{StateAllowed, SensorAllowed, RequestAllowed, wordOf, readName, outputName, LengthAllowed, NoPoint}
 use Rattle.promise.specs.Answers.{NeverTold}
+
+-- ---- demand 1: what is turned down, by which number, and what is left as it was
+
+-- Loading any list of numbers.
+pub record LoadRefusals (file : List ℕ) : Type 0 where
+  -- it is refused with a number and an offset exactly when the first test that fails, front to back and in each field the lower number first,
+  -- has them: `loadTests` is the column of all tests
+  pub refused : (c o : ℕ) → (loadTold (loadOf file .answer) ≡ c ∷ o ∷ []) ↔ FirstFails (loadTests file) c o
+  -- it is loaded exactly when no test fails
+  pub loaded : (loadTold (loadOf file .answer) ≡ 0 ∷ []) ↔ NoneFails (loadTests file)
+  -- a file of bytes is loaded exactly when it has the layout: when it is the file of a well-formed set
+  pub layout : Bytes file → (loadTold (loadOf file .answer) ≡ 0 ∷ []) ↔ ((s : Set) × (wellFormed s ≡ true) × (writeOf s ≡ file))
+  -- a refused load carries the set with every field zero
+  pub zero : (c o : ℕ) → loadTold (loadOf file .answer) ≡ c ∷ o ∷ [] → loadOf file .set ≡ zeroSet
+
+-- Writing any set into any buffer.
+pub record WriteRefusals (s : Set) (buf : List ℕ) : Type 0 where
+  pub not-formed : (writeTold (writeAnswer s (length buf)) ≡ 20 ∷ []) ↔ (wellFormed s ≡ false)
+  -- 24, with the length needed, exactly when the buffer is shorter than the file
+  pub short : (needed : ℕ) → (writeTold (writeAnswer s (length buf)) ≡ 24 ∷ needed ∷ [])
+      ↔ ((wellFormed s ≡ true) × (needed ≡ length (writeOf s)) × (length buf < needed))
+  -- else the length of the file is told
+  pub wrote : (size : ℕ) → (writeTold (writeAnswer s (length buf)) ≡ 0 ∷ size ∷ [])
+      ↔ ((wellFormed s ≡ true) × (size ≡ length (writeOf s)) × (size ≤ length buf))
+  -- the file stands at the front of the buffer, and later bytes are as they were
+  pub front : (size : ℕ) → writeTold (writeAnswer s (length buf)) ≡ 0 ∷ size ∷ [] → bufferAfter s buf ≡ writeOf s ++ drop size buf
+  -- a refusal leaves the buffer as it was
+  pub untouched : ((size : ℕ) → writeTold (writeAnswer s (length buf)) ≢ 0 ∷ size ∷ []) → bufferAfter s buf ≡ buf
+
+-- The verdict on any set, with scratch of any size. What else it rejects is demand 3's; the start says the same, with its state.
+pub record VerdictRefusals (s : Set) (room : ℕ) : Type 0 where
+  pub not-formed : (verdictTold (judgeOf s room) ≡ 20 ∷ []) ↔ (wellFormed s ≡ false)
+  pub short : (verdictTold (judgeOf s room) ≡ 21 ∷ []) ↔ ((wellFormed s ≡ true) × (room < 2 ^ s .n))
+  -- with 20 and 21 no byte of the scratch is free, else the first 2 ^ n are
+  pub untouched : (wellFormed s ≡ false) ⊎ (room < 2 ^ s .n) → looseBytes s room ≡ 0
+  pub loose : wellFormed s ≡ true → 2 ^ s .n ≤ room → looseBytes s room ≡ 2 ^ s .n
+
+-- A scan of any state, with any words.
+pub record ScanRefusals (st : State) (now request : ℕ) : Type 0 where
+  pub bad-state : (scanTold (scanOf st now request .answer) ≡ 30 ∷ []) ↔ (¬ StateAllowed st)
+  pub bad-sensor : (scanTold (scanOf st now request .answer) ≡ 31 ∷ []) ↔ (StateAllowed st × (¬ SensorAllowed (st .set) now))
+  pub bad-request : (scanTold (scanOf st now request .answer) ≡ 32 ∷ [])
+      ↔ (StateAllowed st × SensorAllowed (st .set) now × (¬ RequestAllowed (st .set) request))
+  -- 33 exactly when the walk never reaches a safe vector
+  pub unsafe : (scanTold (scanOf st now request .answer) ≡ 33 ∷ [])
+      ↔ (StateAllowed st × SensorAllowed (st .set) now × RequestAllowed (st .set) request × (¬ Reaches (st .set) (wordOf st now) request))
+  -- any other scan sends a vector
+  pub sends : StateAllowed st → SensorAllowed (st .set) now → RequestAllowed (st .set) request → Reaches (st .set) (wordOf st now) request
+      → (v : ℕ) × (k : ℕ) × (scanTold (scanOf st now request .answer) ≡ 0 ∷ v ∷ k ∷ [])
+  -- a refused scan gives the state as it was
+  pub kept : ((v k : ℕ) → scanTold (scanOf st now request .answer) ≢ 0 ∷ v ∷ k ∷ []) → scanOf st now request .state ≡ st
+
+-- Finding any bytes in any set.
+pub record FindRefusals (s : Set) (bytes : List ℕ) : Type 0 where
+  pub not-formed : (findTold (findOf s bytes) ≡ 20 ∷ []) ↔ (wellFormed s ≡ false)
+  pub bad-length : (findTold (findOf s bytes) ≡ 40 ∷ []) ↔ ((wellFormed s ≡ true) × (¬ LengthAllowed bytes))
+  pub unknown : (findTold (findOf s bytes) ≡ 41 ∷ []) ↔ ((wellFormed s ≡ true) × LengthAllowed bytes × NoPoint s bytes)
+  -- so for any name with a byte outside 0x21 to 0x7E
+  pub strange : wellFormed s ≡ true → LengthAllowed bytes → allNameBytes bytes ≡ false → findTold (findOf s bytes) ≡ 41 ∷ []
+  -- a read point is found under its name and under no other, and so an output
+  pub read : (k : ℕ) → (findTold (findOf s bytes) ≡ 0 ∷ 0 ∷ k ∷ []) ↔ ((wellFormed s ≡ true) × (k < s .r) × (readName s k ≡ bytes))
+  pub output : (j : ℕ) → (findTold (findOf s bytes) ≡ 0 ∷ 1 ∷ j ∷ []) ↔ ((wellFormed s ≡ true) × (j < s .n) × (outputName s j ≡ bytes))
+
+-- Demand 1.
+pub record Demand1 : Type 0 where
+  pub loading : (file : List ℕ) → LoadRefusals file
+  pub writing : (s : Set) (buf : List ℕ) → WriteRefusals s buf
+  pub verdict : (s : Set) (room : ℕ) → VerdictRefusals s room
+  pub scan : (st : State) (now request : ℕ) → ScanRefusals st now request
+  pub finding : (s : Set) (bytes : List ℕ) → FindRefusals s bytes
+  -- a set is well formed exactly when some file of bytes loads to it, and the set with every field zero is not
+  pub formed : (s : Set) → (wellFormed s ≡ true) ↔ ((file : List ℕ) × Bytes file × (loadTold (loadOf file .answer) ≡ 0 ∷ []) × (loadOf file .set ≡ s))
+  pub zero-not-formed : wellFormed zeroSet ≡ false
+
+-- ---- demand 2: what a scan sends, and files that come back
+
+-- A scan whose state and words are allowed, of any state, started or made by hand: it sends the walk's first safe vector and reports the passes
+-- before it, at most 2 ^ f - 1, and the next state has that vector and this sensor word; or the walk never is safe, and the answer is 33.
+abbrev pub Answers : State → ℕ → ℕ → Type 0
+Answers st now request =
+    (Sends (st .set) (wordOf st now) request (scanOf st now request .answer)
+    × (scanOf st now request .state ≡ stateOf (st .set) (vectorDue (st .set) (wordOf st now) request) now))
+    ⊎ ((¬ Reaches (st .set) (wordOf st now) request) × (scanTold (scanOf st now request .answer) ≡ 33 ∷ []))
+
+-- Demand 2.
+pub record Demand2 : Type 0 where
+  pub scan : (st : State) (now request : ℕ) → StateAllowed st → SensorAllowed (st .set) now → RequestAllowed (st .set) request → Answers st now request
+  -- no scan changes the set
+  pub same-set : (st : State) (now request : ℕ) → scanOf st now request .state .set ≡ st .set
+  -- loading a written set, from the front of the buffer that it was written into, gives that set
+  pub load-written : (s : Set) (buf : List ℕ) (size : ℕ) → writeTold (writeAnswer s (length buf)) ≡ 0 ∷ size ∷ []
+      → (loadTold (loadOf (take size (bufferAfter s buf)) .answer) ≡ 0 ∷ []) × (loadOf (take size (bufferAfter s buf)) .set ≡ s)
+  -- writing a loaded file, into a buffer that is long enough, gives that file
+  pub write-loaded : (file buf : List ℕ) → Bytes file → loadTold (loadOf file .answer) ≡ 0 ∷ [] → length file ≤ length buf
+      → (writeTold (writeAnswer (loadOf file .set) (length buf)) ≡ 0 ∷ length file ∷ []) × (bufferAfter (loadOf file .set) buf ≡ file ++ drop (length file) buf)
+  -- two files that load to one set are one file
+  pub one-file : (f g : List ℕ) → Bytes f → Bytes g → loadTold (loadOf f .answer) ≡ 0 ∷ [] → loadTold (loadOf g .answer) ≡ 0 ∷ []
+      → loadOf f .set ≡ loadOf g .set → f ≡ g
+
+-- ---- demand 3: the exact verdict, and every list of scans
 
 -- The verdict on a well-formed set, given scratch of `room` bytes, enough for it. No bound on the passes of a walk stands here.
 pub record ExactVerdict (s : Set) (room : ℕ) : Type 0 where

@@ -4,10 +4,12 @@
 use mathlib.Core.Path.{_≡_, refl, sym, ap, _∙_, subst}
 use mathlib.Core.Bool.{true, false}
 use mathlib.Core.Logic.{_⊎_, inl, inr, _↔_, _≢_}
-use Prim.Native.Nat.{ℕ, zero, _^_, _<_}
+use mathlib.Core.List.{[], _∷_}
+use Prim.Native.Nat.{ℕ, zero, _^_, _-_, _≤_, _<_}
 use native.Mathlib.Nat.{eq-zero-or-pos}
 use native.Mathlib.Omega.{arith}
-use borrow.Author.Tests.{ltb-true}
+use lib.Dec.{ltb}
+use borrow.Author.Tests.{ltb-true, lt-ltb}
 use Rattle.words.specs.Loop.{iterate}
 use Rattle.words.proofs.Bools.{by-test, clash, and-true}
 use Rattle.scan.specs.declared.set.Set.{Set}
@@ -20,22 +22,41 @@ use Rattle.scan.specs.declared.machine.Scanned.{Scanned}
 use Rattle.scan.specs.Set.{stateOf}
 use Rattle.scan.specs.Shape.{wellFormed}
 use Rattle.scan.specs.Constraint.{safe}
-use Rattle.scan.specs.Holds.{startVector}
+use Rattle.scan.specs.Holds.{startVector, unheldCount}
 use Rattle.scan.specs.Walk.{walk, after, Reaches, FirstSafe}
 use Rattle.scan.specs.Past.{readWord}
 use Rattle.scan.specs.Machine.{stateOk, sensorOk, requestOk, refused, sending, scanOf}
-use Rattle.scan.specs.History.{passesDue, vectorDue}
+use Rattle.scan.specs.History.{passesDue, vectorDue, Sends}
+use Rattle.scan.specs.Told.{scanTold}
 use Rattle.scan.proofs.Safety.{start-safe}
 use Rattle.scan.proofs.Walks.{Due, walk-due, walk-endless, reaches-or-never}
 
--- a state that passes 30 has a well-formed set
-pub state-formed : (st : State) → stateOk st ≡ true → wellFormed (st .set) ≡ true
+-- ---- what passes 30 and 32
+
+-- a state that passes 30 has a well-formed set and pasts of its widths
+pub state-parts : (st : State) → stateOk st ≡ true
+    → (wellFormed (st .set) ≡ true) × (st .«past_output» < 2 ^ st .set .n) × (st .«past_sensor» < 2 ^ st .set .r)
 unfolding stateOk
-state-formed st e = and-true (wellFormed (st .set)) _ e .0
+state-parts st e =
+    let a = and-true (wellFormed (st .set)) _ e in
+    let b = and-true (ltb (st .«past_output») (2 ^ st .set .n)) _ (a .1) in
+    (a .0, ltb-true _ _ (b .0), ltb-true _ _ (and-true (ltb (st .«past_sensor») (2 ^ st .set .r)) _ (b .1) .0))
+
+-- and such a state passes
+pub state-passes : (st : State) → wellFormed (st .set) ≡ true → st .«past_output» < 2 ^ st .set .n → st .«past_sensor» < 2 ^ st .set .r → stateOk st ≡ true
+unfolding stateOk
+state-passes st ok h l = rw (ok, lt-ltb (st .«past_output») (2 ^ st .set .n) h, lt-ltb (st .«past_sensor») (2 ^ st .set .r) l)
+
+pub state-formed : (st : State) → stateOk st ≡ true → wellFormed (st .set) ≡ true
+state-formed st e = state-parts st e .0
 
 pub request-lt : (s : Set) (request : ℕ) → requestOk s request ≡ true → request < 2 ^ s .n
 unfolding requestOk
 request-lt s request e = ltb-true _ _ e
+
+pub request-passes : (s : Set) (request : ℕ) → request < 2 ^ s .n → requestOk s request ≡ true
+unfolding requestOk
+request-passes s request h = lt-ltb _ _ h
 
 -- ---- the request is sent untouched exactly when it makes no constraint true
 
@@ -54,6 +75,20 @@ module _ (s : Set) (ok : wellFormed s ≡ true) (w request : ℕ) (fits : reques
   pub due-untouched : Reaches s w request → (vectorDue s w request ≡ request) ↔ (safe s w request ≡ true)
   unfolding vectorDue
   due-untouched r = first-untouched (passesDue s w request) (walk-due s ok w request fits r .first-safe)
+
+  -- an answer that tells the vector due and the passes due is what an allowed scan sends
+  pub sends-due : Reaches s w request → (a : ScanAnswer) → scanTold a ≡ 0 ∷ vectorDue s w request ∷ passesDue s w request ∷ [] → Sends s w request a
+  sends-due r a e =
+      let due = walk-due s ok w request fits r in
+      record {
+        answers = e;
+        first-safe = due .first-safe;
+        within = within (2 ^ unheldCount s w) (due .soon-enough);
+        untouched = due-untouched r;
+      }
+    where
+      within : {k : ℕ} (n : ℕ) → k < n → k ≤ n - 1
+      within n h = omega arith
 
   -- the walk from a safe request reaches a safe vector
   pub safe-start-reaches : safe s w request ≡ true → Reaches s w request

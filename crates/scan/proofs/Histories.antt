@@ -4,11 +4,8 @@
 use mathlib.Core.Path.{_≡_, refl, sym, ap, _∙_, subst}
 use mathlib.Core.Bool.{Bool, true, false, _&&_}
 use mathlib.Core.List.{List, [], _∷_}
-use Prim.Native.Nat.{ℕ, _-_, _^_, _≤_, _<_}
-use native.Mathlib.Omega.{arith}
-use lib.Dec.{ltb}
+use Prim.Native.Nat.{ℕ, _^_, _<_}
 use lib.Pow.{pow-pos}
-use borrow.Author.Tests.{ltb-true, lt-ltb}
 use Rattle.words.proofs.Bools.{by-test, and-true}
 use Rattle.scan.specs.declared.set.Set.{Set}
 use Rattle.scan.specs.declared.set.State.{State}
@@ -16,22 +13,16 @@ use Rattle.scan.specs.declared.machine.ScanAnswer.the-variants.{Sent, Ba
 use Rattle.scan.specs.declared.machine.Scanned.{Scanned}
 use Rattle.scan.specs.Set.{stateOf}
 use Rattle.scan.specs.Shape.{wellFormed}
-use Rattle.scan.specs.Holds.{unheldCount}
 use Rattle.scan.specs.Walk.{Reaches}
 use Rattle.scan.specs.Machine.{stateOk, sensorOk, requestOk, refused, scanOf}
 use Rattle.scan.specs.Told.{scanTold}
 use Rattle.scan.specs.History.{Call, allowed, passesDue, vectorDue, pastSensor, pastOutput, readAfter, stateAfter, run, runState, followed, Right, AllRight}
 use Rattle.scan.proofs.Passes.{after-lt}
-use Rattle.scan.proofs.ReadWords.{read-lt}
-use Rattle.scan.proofs.Walks.{walk-due}
-use Rattle.scan.proofs.Answers.{request-lt, due-untouched, scan-bad-sensor, scan-bad-request, scan-sends}
+use Rattle.scan.proofs.ReadWords.{read-lt, sensor-lt}
+use Rattle.scan.proofs.Answers.{state-passes, request-lt, sends-due, scan-bad-sensor, scan-bad-request, scan-sends}
 
 module _ (s : Set) (ok : wellFormed s ≡ true) (ends : (w : ℕ) → w < 2 ^ s .r → (g : ℕ) → g < 2 ^ s .n → Reaches s w g) where
   -- ---- the pasts that a list leaves
-
-  sensor-lt : (now : ℕ) → sensorOk s now ≡ true → now < 2 ^ s .r
-  unfolding sensorOk
-  sensor-lt now e = ltb-true _ _ (and-true (ltb now (2 ^ s .r)) _ e .0)
 
   parts : (c : Call) → allowed s c ≡ true → (sensorOk s (c .sensor) ≡ true) × (requestOk s (c .request) ≡ true)
   unfolding allowed
@@ -45,7 +36,7 @@ module _ (s : Set) (ok : wellFormed s ≡ true) (ends : (w : ℕ) → w < 2 ^ s 
   unfolding pastSensor
   past-sensor-lt [] = pow-pos (s .r)
   past-sensor-lt (b ∷ before) =
-      by-test (allowed s b) (λ e. rw e (sensor-lt (b .sensor) (parts b e .0))) (λ e. rw e (past-sensor-lt before))
+      by-test (allowed s b) (λ e. rw e (sensor-lt s (b .sensor) (parts b e .0))) (λ e. rw e (past-sensor-lt before))
 
   past-output-lt : (before : List Call) → pastOutput s before < 2 ^ s .n
   unfolding pastOutput readAfter vectorDue
@@ -56,9 +47,7 @@ module _ (s : Set) (ok : wellFormed s ≡ true) (ends : (w : ℕ) → w < 2 ^ s 
       (λ e. rw e (past-output-lt before))
 
   state-ok : (before : List Call) → stateOk (stateAfter s before) ≡ true
-  unfolding stateOk
-  state-ok before =
-      rw (ok, lt-ltb (pastOutput s before) (2 ^ s .n) (past-output-lt before), lt-ltb (pastSensor s before) (2 ^ s .r) (past-sensor-lt before))
+  state-ok before = state-passes (stateAfter s before) ok (past-output-lt before) (past-sensor-lt before)
 
   -- a call that is not allowed leaves the pasts, and one that is puts its own there
   state-kept : (before : List Call) (c : Call) → allowed s c ≡ false → stateAfter s (c ∷ before) ≡ stateAfter s before
@@ -96,18 +85,9 @@ module _ (s : Set) (ok : wellFormed s ≡ true) (ends : (w : ℕ) → w < 2 ^ s 
       refuses-sensor = λ e. ap (λ (x : Scanned). scanTold (x .answer)) (refuses-sensor e);
       refuses-request = λ e f. ap (λ (x : Scanned). scanTold (x .answer)) (refuses-request e f);
       sends = λ e.
-          let fits = request-lt s (c .request) (parts c e .1) in
-          let due = walk-due s ok (readAfter s before c) (c .request) fits (reaches before c e) in
-          record {
-            answers = ap (λ (x : Scanned). scanTold (x .answer)) (sends e);
-            first-safe = due .first-safe;
-            within = within (2 ^ unheldCount s (readAfter s before c)) (due .soon-enough);
-            untouched = due-untouched s ok (readAfter s before c) (c .request) fits (reaches before c e);
-          };
+          sends-due s ok (readAfter s before c) (c .request) (request-lt s (c .request) (parts c e .1)) (reaches before c e) (scanned .answer)
+          (ap (λ (x : Scanned). scanTold (x .answer)) (sends e));
     }
-      where
-        within : {k : ℕ} (n : ℕ) → k < n → k ≤ n - 1
-        within n h = omega arith
 
     state-next : scanned .state ≡ stateAfter s (c ∷ before)
     unfolding allowed

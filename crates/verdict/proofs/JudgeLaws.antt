@@ -17,6 +17,11 @@ module _ (s : Set) (room : ℕ) where
   unfolding judgeOf
   bad-set e = sym (rw e)
 
+  -- with 20 no byte of the scratch is free
+  pub loose-bad : wellFormed s ≡ false → looseBytes s room ≡ 0
+  unfolding looseBytes
+  loose-bad e = rw e
+
   module _ (ok : wellFormed s ≡ true) where
     pub short-scratch : room < 2 ^ s .n → ShortScratch ≡ judgeOf s room
     unfolding judgeOf
@@ -26,7 +31,13 @@ module _ (s : Set) (room : ℕ) where
     unfolding judgeOf
     judged h = sym (rw (ok, le-ltb room (2 ^ s .n) h))
 
-    loose : 2 ^ s .n ≤ room → looseBytes s room ≡ 2 ^ s .n
+    -- with 21 none is free
+    pub loose-short : room < 2 ^ s .n → looseBytes s room ≡ 0
+    unfolding looseBytes
+    loose-short h = rw (ok, lt-ltb room (2 ^ s .n) h)
+
+    -- else the first 2 ^ n are
+    pub loose : 2 ^ s .n ≤ room → looseBytes s room ≡ 2 ^ s .n
     unfolding looseBytes
     loose h = rw (ok, le-ltb room (2 ^ s .n) h)
 

@@ -1,0 +1,51 @@
+-- What document 01 allows of a state, of a scan's words and of a name, and what stands under a point's number.
+-- Assumes nothing.
+use mathlib.Core.Path.{_≡_}
+use mathlib.Core.Bool.{true}
+use mathlib.Core.List.{List}
+use mathlib.Core.Logic.{_≢_}
+use Prim.Native.Nat.{ℕ, _^_, _≤_, _<_}
+use lib.ListN.{length}
+use Rattle.words.specs.Word.{bit}
+use Rattle.scan.specs.declared.set.Set.{Set}
+use Rattle.scan.specs.declared.set.State.{State}
+use Rattle.scan.specs.Set.{namePlaces, kind, readPoint, outputPoint}
+use Rattle.scan.specs.Names.{nameBytes}
+use Rattle.scan.specs.Shape.{isSensor, wellFormed}
+use Rattle.scan.specs.Past.{readWord}
+
+-- ---- scans
+
+-- a state: its set is well formed, its past output word has n bits and its past sensor word r bits
+abbrev pub StateAllowed : State → Type 0
+StateAllowed st = (wellFormed (st .set) ≡ true) × (st .«past_output» < 2 ^ st .set .n) × (st .«past_sensor» < 2 ^ st .set .r)
+
+-- a sensor word: it has r bits, and those that are set are at sensors
+abbrev pub SensorAllowed : Set → ℕ → Type 0
+SensorAllowed s now = (now < 2 ^ s .r) × ((k : ℕ) → bit k now ≡ true → isSensor (kind s k) ≡ true)
+
+-- a request: it has n bits
+abbrev pub RequestAllowed : Set → ℕ → Type 0
+RequestAllowed s request = request < 2 ^ s .n
+
+-- the read word of a scan: the sensor word, with past points filled from the state
+abbrev pub wordOf : State → ℕ → ℕ
+wordOf st now = readWord (st .set) (st .«past_output») (st .«past_sensor») now
+
+-- ---- names
+
+-- the bytes of read point k's name
+abbrev pub readName : Set → ℕ → List ℕ
+readName s k = nameBytes (readPoint (s .reads) k .name)
+
+-- the bytes of output j's name
+abbrev pub outputName : Set → ℕ → List ℕ
+outputName s j = nameBytes (outputPoint (s .outputs) j .name)
+
+-- 1 to 8 bytes
+abbrev pub LengthAllowed : List ℕ → Type 0
+LengthAllowed bytes = (1 ≤ length bytes) × (length bytes ≤ namePlaces)
+
+-- no point of the set bears the name
+abbrev pub NoPoint : Set → List ℕ → Type 0
+NoPoint s bytes = ((k : ℕ) → k < s .r → readName s k ≢ bytes) × ((j : ℕ) → j < s .n → outputName s j ≢ bytes)
