@@ -28,6 +28,7 @@ pub record Test : Type 0 where
   pub offset : ℕ
   pub fails : Bool
 
+-- a test by its three parts
 abbrev pub test : ℕ → ℕ → Bool → Test
 test number offset fails = record { number = number; offset = offset; fails = fails }
 
@@ -42,11 +43,12 @@ abbrev pub NoneFails : List Test → Type 0
 NoneFails [] = Unit {0}
 NoneFails (t ∷ column) = (t .fails ≡ false) × NoneFails column
 
--- the tests behind a field that was taken, from the place behind it and the set so far; none behind a refusal
+-- the tests from a place on, with the set so far; none behind a refusal
 abbrev pub behindPlace : Progress → Set → (ℕ → Set → List Test) → List Test
 behindPlace (At at) set tests = tests at set
 behindPlace (Refused number offset) set tests = []
 
+-- the tests behind a part of a load that was taken
 abbrev pub behind : Loading → (ℕ → Set → List Test) → List Test
 behind l tests = behindPlace (l .progress) (l .set) tests
 
@@ -149,5 +151,6 @@ outputsOn file at set =
 abbrev pub readsOn : List ℕ → ℕ → Set → List Test
 readsOn file at set = readsTests file (set .r) 0 at set ++ behind (readsFrom file (set .r) 0 at set) (outputsOn file)
 
+-- all tests of a file
 unfoldable pub loadTests : List ℕ → List Test
 loadTests file = countsTests file ++ behind (countsAt file) (readsOn file)
