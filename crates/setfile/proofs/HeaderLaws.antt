@@ -11,9 +11,10 @@ use lib.ListN.{length, getD, drop, length-drop}
 use lib.Seq.{getD-drop}
 use borrow.Author.Tests.{not-true, le-leb, lt-leb, leb-true, leb-false, eqb-true, eqb-false, eq-eqb, ne-eqb}
 use Rattle.words.proofs.Bools.{clash, by-test, and-true, or-true}
-use Rattle.setfile.specs.Header.{headerOf, need, isDue, fitsTable, bodyLength, shortest, longest, step}
+use Rattle.setfile.specs.Header.{headerOf, frontOf, need, isDue, fitsTable, bodyLength, shortest, longest, step}
 use Rattle.setfile.specs.declared.header.Header.{Header}
 use Rattle.setfile.specs.declared.header.Header.the-variants.{Refused, Field}
+use Rattle.setfile.specs.declared.reader.FrontField.{FrontField}
 
 -- ---- the table
 
@@ -142,3 +143,18 @@ constraint-length s m tag len n e =
     let t : tag ≡ 4 = by-test (eqb tag 4) (eqb-true tag 4) (λ w. absurd (n (eqb-true tag 5 (or-true (eqb tag 4) (eqb tag 5) (f .awaited) w)))) in
     let b = table-bounds 4 len (subst (λ (k : ℕ). fitsTable k len ≡ true) t (f .table)) in
     (b .1, b .2, leb-false 64 m (subst (λ (k : ℕ). (eqb k 4 && leb 64 m) ≡ false) t (f .few)))
+
+-- ---- the field at a place of a file
+
+module _ (s : List ℕ) (at due m : ℕ) (f : FrontField) (e : f ≡ frontOf s at due m) where
+  -- its first byte is at that place
+  pub front-place : f .at ≡ at
+  front-place = λ i. e i .at
+
+  -- its header is the one at that place
+  pub front-there : headerOf (drop at s) due m ≡ f .header
+  front-there = λ i. sym e i .header
+
+  -- which is the one at the offset that it tells
+  pub front-header : headerOf (drop (f .at) s) due m ≡ f .header
+  front-header = ap (λ (x : ℕ). headerOf (drop x s) due m) front-place ∙ front-there

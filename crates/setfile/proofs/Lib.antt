@@ -1,4 +1,5 @@
 pub mod HeaderLaws
+pub mod ReaderWalks
 pub mod LiteralLaws
 pub mod LoadLaws
 pub mod Columns

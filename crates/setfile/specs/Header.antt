@@ -7,6 +7,7 @@ use lib.Dec.{ltb, leb, eqb}
 use lib.ListN.{length, getD, take, drop}
 use Rattle.setfile.specs.declared.header.Header.{Header}
 use Rattle.setfile.specs.declared.header.Header.the-variants.{Refused, Field}
+use Rattle.setfile.specs.declared.reader.FrontField.{FrontField}
 
 -- ---- the table by tag; there is no tag 0
 
@@ -50,6 +51,10 @@ headerOf s due m =
     (need (not (eqb (getD s 0 0) 4 && leb 64 m)) 3
     (need (fitsTable (getD s 0 0) (bodyLength s)) 4
     (Field (getD s 0 0) (bodyLength s))))))
+
+-- the field at the place `at` of the file s: its header, beside the offset of its first byte
+abbrev pub frontOf : List ℕ → ℕ → ℕ → ℕ → FrontField
+frontOf s at due m = record { header = headerOf (drop at s) due m; at = at }
 
 -- the body of such a field
 abbrev pub bodyOf : List ℕ → ℕ → List ℕ

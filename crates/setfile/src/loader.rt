@@ -1,6 +1,5 @@
 // Loading: the counts, then read points, outputs, constraints and the end, each field from the front of what is left.
 use super::header::Header;
-use super::header::header_at;
 use super::literal::Taken;
 use super::literal::literals_of;
 use super::numbers::BAD_COUNTS;
@@ -13,6 +12,7 @@ use super::numbers::TAG_READ;
 use super::point::Point;
 use super::point::output_field;
 use super::point::read_field;
+use super::reader::front_at;
 use scan::Set;
 use scan::zero_set;
 ghost use mathlib.Core.Path.{_≡_};
@@ -65,27 +65,30 @@ fn going_on(at: usize, set: Set) -> Loading
 fn counts_at(s: &[u8]) -> Loading
     ensures { λ r. ⌜ r ≡ countsAt (now (s .entry)) ⌝ }
 {
-    match header_at(s, 0, TAG_COUNTS, 0) {
-        Header::Refused(c) => refused(c, 0),
+    let front = front_at(s, 0, TAG_COUNTS, 0);
+    let header = front.header;
+    let here = front.at;
+    match header {
+        Header::Refused(c) => refused(c, here),
         Header::Field(_, len) => {
-            let r = s[3] as usize;
-            let n = s[4] as usize;
+            let r = s[here + 3] as usize;
+            let n = s[here + 4] as usize;
             if 16 < r {
-                return refused(BAD_COUNTS, 0);
+                return refused(BAD_COUNTS, here);
             }
             if n < 1 {
-                return refused(BAD_COUNTS, 0);
+                return refused(BAD_COUNTS, here);
             }
             if 12 < n {
-                return refused(BAD_COUNTS, 0);
+                return refused(BAD_COUNTS, here);
             }
             if 24 < r + n {
-                return refused(BAD_COUNTS, 0);
+                return refused(BAD_COUNTS, here);
             }
             let mut set = zero_set();
             set.r = r;
             set.n = n;
-            going_on(3 + len, set)
+            going_on(here + 3 + len, set)
         }
     }
 }
@@ -94,18 +97,21 @@ fn read_at(s: &[u8], at: usize, set: Set, i: usize) -> Loading
     requires { ⌜ i < 16 ⌝ }
     ensures { λ r. ⌜ r ≡ readAt (now (s .entry)) at set i ⌝ }
 {
-    match header_at(s, at, TAG_READ, 0) {
-        Header::Refused(c) => refused(c, at),
+    let front = front_at(s, at, TAG_READ, 0);
+    let header = front.header;
+    let here = front.at;
+    match header {
+        Header::Refused(c) => refused(c, here),
         Header::Field(_, len) => {
-            let f = read_field(&s[at + 3..at + 3 + len], set, i);
+            let f = read_field(&s[here + 3..here + 3 + len], set, i);
             let p = f.point;
             match p {
-                Point::Refused(c) => refused(c, at),
+                Point::Refused(c) => refused(c, here),
                 Point::Good => {
                     let read = f.read;
                     let mut more = set;
                     more.reads[i] = read;
-                    going_on(at + 3 + len, more)
+                    going_on(here + 3 + len, more)
                 }
             }
         }
@@ -116,18 +122,21 @@ fn output_at(s: &[u8], at: usize, set: Set, j: usize) -> Loading
     requires { ⌜ (set .r ≤ 16) × (j < 12) ⌝ }
     ensures { λ r. ⌜ r ≡ outputAt (now (s .entry)) at set j ⌝ }
 {
-    match header_at(s, at, TAG_OUTPUT, 0) {
-        Header::Refused(c) => refused(c, at),
+    let front = front_at(s, at, TAG_OUTPUT, 0);
+    let header = front.header;
+    let here = front.at;
+    match header {
+        Header::Refused(c) => refused(c, here),
         Header::Field(_, len) => {
-            let f = output_field(&s[at + 3..at + 3 + len], set, j);
+            let f = output_field(&s[here + 3..here + 3 + len], set, j);
             let p = f.point;
             match p {
-                Point::Refused(c) => refused(c, at),
+                Point::Refused(c) => refused(c, here),
                 Point::Good => {
                     let output = f.output;
                     let mut more = set;
                     more.outputs[j] = output;
-                    going_on(at + 3 + len, more)
+                    going_on(here + 3 + len, more)
                 }
             }
         }
@@ -209,16 +218,19 @@ fn constraints_at(s: &[u8], at: usize, set: Set) -> Loading
     let mut next = at;
     let mut so_far = set;
     loop {
-        match header_at(s, next, TAG_CONSTRAINT, so_far.m) {
-            Header::Refused(c) => return refused(c, next),
+        let front = front_at(s, next, TAG_CONSTRAINT, so_far.m);
+        let header = front.header;
+        let here = front.at;
+        match header {
+            Header::Refused(c) => return refused(c, here),
             Header::Field(tag, len) => {
                 if tag == TAG_END {
-                    if next + 3 < s.len() {
-                        return refused(BYTES_FOLLOW, next + 3);
+                    if here + 3 < s.len() {
+                        return refused(BYTES_FOLLOW, here + 3);
                     }
-                    return going_on(next + 3, so_far);
+                    return going_on(here + 3, so_far);
                 }
-                let l = constraint_at(s, next, len, so_far);
+                let l = constraint_at(s, here, len, so_far);
                 let p = l.progress;
                 match p {
                     Progress::Refused(_, _) => return l,

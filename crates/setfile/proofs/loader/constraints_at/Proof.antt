@@ -1,5 +1,5 @@
 -- `setfile::loader::constraints_at` meets its contract. The loop's invariant: the fields from here on, on the set so far, give what all of them give on the set at the start. Assumes nothing.
-use mathlib.Core.Path.{_≡_, sym, _∙_}
+use mathlib.Core.Path.{_≡_, sym, _∙_, ap}
 use Prim.Native.Nat.{_+_, _-_, _≤_, _<_}
 use native.Mathlib.Omega.{arith}
 use lib.ListN.{length, drop}
@@ -7,7 +7,7 @@ use denote.Ref.{now}
 use Rattle.setfile.specs.declared.header.Header.the-variants.{Field}
 use Rattle.setfile.specs.Header.{headerOf}
 use Rattle.setfile.specs.Load.{constraintsFrom}
-use Rattle.setfile.proofs.HeaderLaws.{field-within, constraint-length}
+use Rattle.setfile.proofs.HeaderLaws.{field-within, constraint-length, front-place, front-header}
 use Rattle.setfile.proofs.Keeps.{constraint-adds, constraints-stopped, bytes-follow, constraints-end, constraints-stay, constraints-go}
 use borrow.Author.Needs.{needs}
 use Rattle.setfile.proofs.loader.constraints_at.Statement.{statement}
@@ -22,30 +22,43 @@ abbrev μ-loop : tie.MeasureT-loop
 loop-holds : tie.Need-loop-holds Inv-loop μ-loop
 loop-holds c = (c .before .pre .0, omega (arith, c .before .pre .1), rw (c .before .pre .1))
 
-header-at-requires : tie.Need-header-at-requires Inv-loop μ-loop
-header-at-requires c κs = search needs
+front-at-requires : tie.Need-front-at-requires Inv-loop μ-loop
+front-at-requires c κs = search needs
 
-enum-known-c : tie.Need-enum-known-c Inv-loop μ-loop
-enum-known-c c = search needs
+enum-known-header : tie.Need-enum-known-header Inv-loop μ-loop
+enum-known-header c = search needs
 
 refused-requires : tie.Need-refused-requires Inv-loop μ-loop
 refused-requires c κs = search needs
 
+-- the field is at the loop's place, its header is the one there, and what the loop has come to holds of it
+place : (c : tie.After-front-at Inv-loop μ-loop) → c .front-at .result .at ≡ c .before .loop .next
+place c = front-place (now (c .before .before .before .args .s)) (c .before .loop .next) 4 (c .before .loop .so-far .m) (c .front-at .result) (c .front-at .ensures)
+
+header : (c : tie.After-front-at Inv-loop μ-loop) → headerOf (drop (c .front-at .result .at) (now (c .before .before .before .args .s))) 4 (c .before .loop .so-far .m) ≡ c .front-at .result .header
+header c = front-header (now (c .before .before .before .args .s)) (c .before .loop .next) 4 (c .before .loop .so-far .m) (c .front-at .result) (c .front-at .ensures)
+
+so-far : (c : tie.After-front-at Inv-loop μ-loop) → constraintsFrom (now (c .before .before .before .args .s)) 65 (c .before .before .before .args .at) (c .before .before .before .args .set) ≡ constraintsFrom (now (c .before .before .before .args .s)) (65 - c .before .loop .so-far .m) (c .front-at .result .at) (c .before .loop .so-far)
+so-far c =
+    let l = c .before .loop in
+    l .inv .2 ∙ ap (λ x. constraintsFrom (now (c .before .before .before .args .s)) (65 - l .so-far .m) x (l .so-far)) (sym (place c))
+
 returns : tie.Need-returns Inv-loop μ-loop
 returns c =
     let k = c .before .before in
-    let l = k .before .before .before .loop in
-    let s = now (k .before .before .before .before .before .args .s) in
-    c .refused .ensures ∙ constraints-stopped s _ (l .next) (l .so-far) (l .inv .1) (l .inv .2) _ (sym (k .before .before .header-at .ensures) ∙ k .c .given .1)
+    let h = k .before .before in
+    let l = h .before .loop in
+    let s = now (h .before .before .before .args .s) in
+    c .refused .ensures ∙ constraints-stopped s _ (h .front-at .result .at) (l .so-far) (l .inv .1) (so-far h) _ (header h ∙ k .header .given .1)
 
-enum-known-tag : tie.Need-enum-known-tag Inv-loop μ-loop
-enum-known-tag c = search needs
+enum-known-header-2 : tie.Need-enum-known-header-2 Inv-loop μ-loop
+enum-known-header-2 c = search needs
 
 -- what the header tells
-here : (c : tie.After-known-told2 Inv-loop μ-loop) → headerOf (drop (c .before .before .before .before .loop .next) (now (c .before .before .before .before .before .before .args .s))) 4 (c .before .before .before .before .loop .so-far .m) ≡ Field (c .before .tag .given .0 .0) (c .before .tag .given .0 .1 .0)
-here c = sym (c .before .before .before .header-at .ensures) ∙ c .before .tag .given .1
+here : (c : tie.After-known-told2 Inv-loop μ-loop) → headerOf (drop (c .before .before .before .front-at .result .at) (now (c .before .before .before .before .before .before .args .s))) 4 (c .before .before .before .before .loop .so-far .m) ≡ Field (c .before .header2 .given .0 .0) (c .before .header2 .given .0 .1 .0)
+here c = header (c .before .before .before) ∙ c .before .header2 .given .1
 
-whole : (c : tie.After-known-told2 Inv-loop μ-loop) → c .before .before .before .before .loop .next + 3 + c .before .tag .given .0 .1 .0 ≤ length (now (c .before .before .before .before .before .before .args .s))
+whole : (c : tie.After-known-told2 Inv-loop μ-loop) → c .before .before .before .front-at .result .at + 3 + c .before .header2 .given .0 .1 .0 ≤ length (now (c .before .before .before .before .before .before .args .s))
 whole c = field-within _ _ 4 _ _ _ (here c)
 
 add-if2 : tie.Need-add-if2 Inv-loop μ-loop
@@ -61,9 +74,10 @@ returns-2 : tie.Need-returns-2 Inv-loop μ-loop
 returns-2 c =
     let t = c .before .before in
     let k = t .before in
-    let l = k .before .before .before .before .loop in
-    let s = now (k .before .before .before .before .before .before .args .s) in
-    c .refused2 .ensures ∙ bytes-follow s _ (l .next) (l .so-far) (l .inv .1) (l .inv .2) _ _ (here k) (t .if1 .taken) (c .before .if2 .taken)
+    let h = k .before .before .before in
+    let l = h .before .loop in
+    let s = now (h .before .before .before .args .s) in
+    c .refused2 .ensures ∙ bytes-follow s _ (h .front-at .result .at) (l .so-far) (l .inv .1) (so-far h) _ _ (here k) (t .if1 .taken) (c .before .if2 .taken)
 
 add-going-on : tie.Need-add-going-on Inv-loop μ-loop
 add-going-on c = omega (arith, whole (c .before .before), c .before .before .before .before .before .before .before .before .good)
@@ -75,9 +89,10 @@ returns-3 : tie.Need-returns-3 Inv-loop μ-loop
 returns-3 c =
     let t = c .before .before in
     let k = t .before in
-    let l = k .before .before .before .before .loop in
-    let s = now (k .before .before .before .before .before .before .args .s) in
-    c .going-on .ensures ∙ constraints-end s _ (l .next) (l .so-far) (l .inv .1) (l .inv .2) _ _ (here k) (t .if1 .taken) (c .before .if2 .left)
+    let h = k .before .before .before in
+    let l = h .before .loop in
+    let s = now (h .before .before .before .args .s) in
+    c .going-on .ensures ∙ constraints-end s _ (h .front-at .result .at) (l .so-far) (l .inv .1) (so-far h) _ _ (here k) (t .if1 .taken) (c .before .if2 .left)
 
 constraint-at-requires : tie.Need-constraint-at-requires Inv-loop μ-loop
 constraint-at-requires c κs =
@@ -92,9 +107,10 @@ returns-4 : tie.Need-returns-4 Inv-loop μ-loop
 returns-4 c =
     let f = c .before .before in
     let k = f .before .before in
-    let l = k .before .before .before .before .loop in
-    let s = now (k .before .before .before .before .before .before .args .s) in
-    constraints-stay s _ (l .next) (l .so-far) (l .inv .1) (l .inv .2) _ _ (here k) (f .before .if1 .left) (f .constraint-at .result) (f .constraint-at .ensures)
+    let h = k .before .before .before in
+    let l = h .before .loop in
+    let s = now (h .before .before .before .args .s) in
+    constraints-stay s _ (h .front-at .result .at) (l .so-far) (l .inv .1) (so-far h) _ _ (here k) (f .before .if1 .left) (f .constraint-at .result) (f .constraint-at .ensures)
     _ _ (c .enum-told .given .1)
 
 enum-known-p : tie.Need-enum-known-p Inv-loop μ-loop
@@ -105,9 +121,10 @@ added : (c : tie.After-more Inv-loop μ-loop) → (c .before .before .before .be
 added c =
     let f = c .before .before .before .before in
     let k = f .before .before in
-    let l = k .before .before .before .before .loop in
-    let s = now (k .before .before .before .before .before .before .args .s) in
-    let e = constraint-adds s (l .next) (k .before .tag .given .0 .1 .0) (l .so-far) (f .constraint-at .result) _ (f .constraint-at .ensures) (c .before .before .p .given .1) in
+    let h = k .before .before .before in
+    let l = h .before .loop in
+    let s = now (h .before .before .before .args .s) in
+    let e = constraint-adds s (h .front-at .result .at) (k .before .header2 .given .0 .1 .0) (l .so-far) (f .constraint-at .result) _ (f .constraint-at .ensures) (c .before .before .p .given .1) in
     (e .0, e .1, constraint-length _ _ _ _ (f .before .if1 .left) (here k) .2)
 
 loop-less : tie.Need-loop-less Inv-loop μ-loop
@@ -117,11 +134,12 @@ loop-again : tie.Need-loop-again Inv-loop μ-loop
 loop-again c =
     let f = c .before .before .before .before in
     let k = f .before .before in
-    let l = k .before .before .before .before .loop in
-    let s = now (k .before .before .before .before .before .before .args .s) in (
+    let h = k .before .before .before in
+    let l = h .before .loop in
+    let s = now (h .before .before .before .args .s) in (
       omega (arith, added c, l .inv),
       omega (arith, added c),
-      constraints-go s _ (l .next) (l .so-far) (l .inv .1) (l .inv .2) _ _ (here k) (f .before .if1 .left) (f .constraint-at .result) (f .constraint-at .ensures)
+      constraints-go s _ (h .front-at .result .at) (l .so-far) (l .inv .1) (so-far h) _ _ (here k) (f .before .if1 .left) (f .constraint-at .result) (f .constraint-at .ensures)
           _ (c .before .before .p .given .1),
     )
 
@@ -132,11 +150,11 @@ constraints-at-spec =
     Inv-loop
     μ-loop
     loop-holds
-    header-at-requires
-    enum-known-c
+    front-at-requires
+    enum-known-header
     refused-requires
     returns
-    enum-known-tag
+    enum-known-header-2
     add-if2
     add-refused
     refused-requires-2
