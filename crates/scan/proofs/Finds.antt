@@ -9,7 +9,6 @@ use lib.ListN.{length}
 use borrow.Author.Tests.{le-leb, lt-leb, lt-ltb, le-ltb}
 use Rattle.words.proofs.Bools.{and-false}
 use Rattle.scan.specs.declared.set.Set.{Set}
-use Rattle.scan.specs.declared.names.NameRead.{NameRead}
 use Rattle.scan.specs.Set.{zeroName}
 use Rattle.scan.specs.Names.{nameRead, lengthOk, allNameBytes, padded, firstRead, firstOutput}
 use Rattle.scan.specs.Shape.{wellFormed}

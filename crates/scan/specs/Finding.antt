@@ -1,14 +1,12 @@
 -- Finding a point by its name.
 -- Assumes nothing.
 use Prim.Native.Nat.{ℕ}
-use mathlib.Core.Bool.{Bool, cond, not, _&&_}
+use mathlib.Core.Bool.{cond, not}
 use mathlib.Core.List.{List}
-use lib.Dec.{leb, ltb}
-use lib.ListN.{length}
+use lib.Dec.{ltb}
 use Rattle.scan.specs.declared.set.Set.{Set}
 use Rattle.scan.specs.declared.finding.Found.{Found}
 use Rattle.scan.specs.declared.finding.Found.the-variants.{Read, Output, BadSet, BadLength, Unknown}
-use Rattle.scan.specs.Set.{namePlaces}
 use Rattle.scan.specs.Names.{lengthOk, allNameBytes, padded, firstRead, firstOutput}
 use Rattle.scan.specs.Shape.{wellFormed}
 

@@ -1,20 +1,18 @@
 -- Fields: one that was written is found, and one that was found is as it would be written.
 -- Assumes nothing.
 use mathlib.Core.Path.{_≡_, refl, sym, _∙_, ap, ap₂, subst}
-use mathlib.Core.Bool.{Bool, true, false, not, _&&_}
+use mathlib.Core.Bool.{true, false, _&&_}
 use mathlib.Core.List.{List, [], _∷_, _++_}
 use Prim.Native.Nat.{ℕ, _+_, _*_, _/_, _%_, _≤_, _<_}
 use native.Mathlib.Nat.{div-add-mod'}
 use native.Mathlib.Omega.{arith}
-use lib.Dec.{ltb, leb, eqb}
+use lib.Dec.{leb, eqb}
 use lib.ListN.{length, getD, take, drop, drop-of-length-le, length-append, length-take, length-drop, take-append-drop}
 use lib.Seq.{take-append-seam, drop-at, drop-drop, length-take-le, getD-take, getD-drop}
-use borrow.Author.Tests.{le-leb, leb-true, eqb-true, not-true}
-use Rattle.words.proofs.Bools.{by-test, and-true, or-true}
-use Rattle.setfile.specs.declared.header.Header.{Header}
+use borrow.Author.Tests.{le-leb}
 use Rattle.setfile.specs.declared.header.Header.the-variants.{Field}
 use Rattle.setfile.specs.Bytes.{Bytes}
-use Rattle.setfile.specs.Header.{shortest, longest, step, fitsTable, isDue, bodyLength, need, headerOf, bodyOf}
+use Rattle.setfile.specs.Header.{fitsTable, isDue, bodyLength, headerOf, bodyOf}
 use Rattle.setfile.specs.Write.{fieldOf}
 use Rattle.setfile.proofs.HeaderLaws.{found as header-found}
 

@@ -6,14 +6,11 @@ use mathlib.Core.List.{List, [], _∷_, _++_, append-assoc}
 use Prim.Native.Nat.{ℕ, suc, _+_, _-_, _≤_, _<_}
 use native.Mathlib.Omega.{arith}
 use lib.ListN.{length, getD, take, drop}
-use lib.Dec.{ltb}
-use borrow.Author.Tests.{le-leb, lt-ltb}
+use borrow.Author.Tests.{le-leb}
 use Rattle.words.specs.Loop.{every}
-use Rattle.words.proofs.Bools.{every-at, cond-true}
-use Rattle.words.proofs.Loops.{all-at}
 use Rattle.scan.specs.declared.set.Set.{Set}
 use Rattle.scan.specs.Set.{zeroSet, zeroConstraint, noConstraint, readPoint, outputPoint, constraint}
-use Rattle.scan.specs.Shape.{countTests, constraintTests, constraintZero, constraintPlace, setTests, wellFormed}
+use Rattle.scan.specs.Shape.{countTests, constraintTests, wellFormed}
 use Rattle.scan.proofs.Formed.{constraint-ok, counts, beyond-zero}
 use Rattle.scan.proofs.Points.{points-formed}
 use Rattle.setfile.specs.declared.loader.LoadAnswer.the-variants.{Loaded}

@@ -7,11 +7,11 @@ use Prim.Native.Nat.{ℕ, _+_, _-_, _≤_, _<_}
 use native.Mathlib.Decide.{decLt}
 use native.Mathlib.Omega.{arith}
 use lib.Dec.{ltb}
-use lib.ListN.{length, getD, take, replicate, length-append, length-replicate, getD-replicate, List·getD-append}
-use lib.Seq.{length-take-le, getD-take, getD-append-add}
-use borrow.Author.Tests.{le-leb, lt-ltb, le-ltb, eq-eqb}
+use lib.ListN.{length, getD, replicate, getD-replicate, List·getD-append}
+use lib.Seq.{getD-append-add}
+use borrow.Author.Tests.{lt-ltb, le-ltb, eq-eqb}
 use Rattle.words.proofs.Bools.{cond-true, cond-false}
-use Rattle.words.proofs.Loops.{all-true, all-at, first-spec}
+use Rattle.words.proofs.Loops.{all-true, all-at}
 use Rattle.scan.specs.declared.names.NameRead.{NameRead}
 use Rattle.scan.specs.Names.{nameByte, allNameBytes, padded, lengthOk, nameRead, zeroAt, nameLength, nameBytes, placeOk, nameOk}
 use Rattle.scan.proofs.Points.{name-formed}

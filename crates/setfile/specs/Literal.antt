@@ -9,7 +9,6 @@ use lib.ListN.{set}
 use lib.Bits.{bitOr}
 use Rattle.scan.specs.declared.set.Constraint.{Constraint}
 use Rattle.scan.specs.Set.{zeroConstraint}
-use Rattle.setfile.specs.declared.literal.Taken.{Taken}
 use Rattle.setfile.specs.declared.literal.Taken.the-variants.{Refused, Next}
 use Rattle.setfile.specs.declared.literal.Literals.{Literals}
 

@@ -1,7 +1,7 @@
 -- The verdict on a set. Read words are tried in rising order, every r-bit word counting as possible; for a word first whether any vector is safe,
 -- then requests in rising order; the first word that fails rejects the set.
 -- Assumes nothing.
-use Prim.Native.Nat.{ℕ, _-_, _^_}
+use Prim.Native.Nat.{ℕ, _^_}
 use mathlib.Core.Bool.{Bool, true, false, cond, not, _||_}
 use lib.Dec.{ltb}
 use Rattle.words.specs.Loop.{some, first}

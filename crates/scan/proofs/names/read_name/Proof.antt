@@ -1,11 +1,10 @@
 -- `scan::names::read_name` meets its contract. Assumes nothing.
-use mathlib.Core.Path.{_≡_, sym, ap, _∙_}
+use mathlib.Core.Path.{sym, ap, _∙_}
 use mathlib.Core.Bool.{true}
 use mathlib.Core.List.{List}
 use Prim.Native.Nat.{ℕ}
 use denote.Ref.{now}
 use borrow.Author.Tests.{not-true, not-false}
-use Rattle.scan.specs.declared.names.NameRead.{NameRead}
 use Rattle.scan.proofs.Finds.{spell-empty, spell-long, spell-strange, spell-name}
 use borrow.Author.Needs.{needs}
 use Rattle.scan.proofs.names.read_name.Statement.{statement}
