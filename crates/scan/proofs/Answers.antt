@@ -126,7 +126,7 @@ module _ (st : State) (now request : ℕ) where
   sending-keeps Never = refl
 
   sending-kept : (x : Walk) → ((v k : ℕ) → sending st now x .answer ≢ Sent v k) → sending st now x .state ≡ st
-  sending-kept (Safe v made) n = absurd (n v made refl)
+  sending-kept (Safe v made) n = absurd (n _ _ refl)
   sending-kept Never n = refl
 
   -- what holds of every refusal and of every walk's end holds of the scan

@@ -26,10 +26,14 @@ use Rattle.scan.proofs.Points.{NameFormed, name-formed, read-formed, ou
 
 -- ---- comparing
 
+-- a byte is the same as itself
+byte-same : (b : ℕ) → eqb b b ≡ true
+byte-same b = eq-eqb b b refl
+
 -- A name is the same as itself.
 pub name-same : (a : List ℕ) → sameName a a ≡ true
 unfolding sameName
-name-same a = all-true 8 (sameAt a a) (λ k h. eq-eqb (getD a k 0) (getD a k 0) refl)
+name-same a = all-true 8 (sameAt a a) (λ k h. simp byte-same)
 
 -- Names of eight places that compare as the same are equal.
 pub same-name : (a b : List ℕ) → length a ≡ 8 → length b ≡ 8 → sameName a b ≡ true → a ≡ b

@@ -129,8 +129,7 @@ module _ (file : List ℕ) (r n : ℕ) (hr : r ≤ 16) (hn : n ≤ 12) (hs : r +
       let n : at + 3 ≡ length file = omega arith in
       let hd : headerOf (drop at file) 4 k ≡ Field 5 0 = ap (λ (s : List ℕ). headerOf s 4 k) e ∙ field-back 5 [] [] 4 k refl refl refl in
       ap (constraintsGiven file at (base k l) (constraintsFrom file left)) hd
-      ∙ ap (λ (b : Bool). cond b (refusal 12 (at + 3)) (goingOn (at + 3) (base k l))) (le-ltb (at + 3) (length file) (omega arith))
-      ∙ ap (λ (x : ℕ). goingOn x (base k l)) n
+      ∙ rw (le-ltb (at + 3) (length file) (omega arith)) (ap (λ (x : ℕ). goingOn x (base k l)) n)
 
   -- A load does not run out of fields.
   pub constraints-zero : (last k at : ℕ) (l : List Constraint) → k + 0 ≡ 65 → constraintsFrom file 0 at (base k l) .progress ≡ At last → EndHere file base 0 k at l

@@ -1,5 +1,7 @@
 -- `scan::past::reading_of` meets its contract. Assumes nothing.
-use mathlib.Core.Path.{sym, ap, _∙_}
+use mathlib.Core.Path.{_≡_, sym, ap, _∙_}
+use mathlib.Core.Bool.{Bool}
+use Prim.Native.Nat.{ℕ}
 use Rattle.scan.specs.declared.set.Kind.{Kind}
 use Rattle.scan.specs.Past.{reading}
 use borrow.Author.Needs.{needs}
@@ -30,22 +32,26 @@ cast-bit32 c = search needs
 bit32-requires-2 : tie.Need-bit32-requires-2
 bit32-requires-2 c κs = search needs
 
+-- what a read point reads, where its kind is known
+by-kind : (output sensor now k : ℕ) {x y : Kind} {r : Bool} → x ≡ y → r ≡ reading output sensor now k x → r ≡ reading output sensor now k y
+by-kind output sensor now k e told = told ∙ ap (reading output sensor now k) e
+
 returns : tie.Need-returns
 returns c =
     let a = c .before .before .before .args in
-    c .bit32 .ensures ∙ ap (λ (x : Kind). reading (a .output) (a .sensor) (a .now) (a .k) x) (sym (c .before .enum-told .given .1))
+    by-kind (a .output) (a .sensor) (a .now) (a .k) (sym (c .before .enum-told .given .1)) (c .bit32 .ensures)
 
 returns-2 : tie.Need-returns-2
 returns-2 c =
     let k = c .before .before in
     let a = k .before .before .args in
-    c .bit16 .ensures ∙ ap (λ (x : Kind). reading (a .output) (a .sensor) (a .now) (a .k) x) (sym (k .kind .given .1))
+    by-kind (a .output) (a .sensor) (a .now) (a .k) (sym (k .kind .given .1)) (c .bit16 .ensures)
 
 returns-3 : tie.Need-returns-3
 returns-3 c =
     let k = c .before .before in
     let a = k .before .before .args in
-    c .bit322 .ensures ∙ ap (λ (x : Kind). reading (a .output) (a .sensor) (a .now) (a .k) x) (sym (k .kind2 .given .1))
+    by-kind (a .output) (a .sensor) (a .now) (a .k) (sym (k .kind2 .given .1)) (c .bit322 .ensures)
 
 pub reading-of-spec : {M : Type 1} → statement M
 reading-of-spec =
