@@ -1,18 +1,19 @@
 -- Steps of the definitions on literals.
 -- Assumes nothing.
 use mathlib.Core.Path.{_≡_}
-use mathlib.Core.Bool.{Bool, true, false, cond}
+use mathlib.Core.Bool.{Bool, true, false, cond, not, _&&_}
 use mathlib.Core.List.{List, _∷_}
-use Prim.Native.Nat.{ℕ, suc, _+_, _≤_, _<_}
+use Prim.Native.Nat.{ℕ, suc, _+_, _^_, _≤_, _<_}
 use native.Mathlib.Numerals.{add-one}
 use native.Mathlib.Omega.{arith}
 use lib.Dec.{ltb, eqb}
-use lib.ListN.{length, getD, drop, drop-of-length-le}
+use lib.ListN.{length, getD, drop, set as store, drop-of-length-le}
+use lib.Bits.{bitOr, or-zero-r}
 use lib.Seq.{drop-cons}
 use borrow.Author.Tests.{le-leb, lt-leb, ltb-true}
 use Rattle.words.proofs.Bools.{and-true}
 use Rattle.scan.specs.declared.set.Constraint.{Constraint}
-use Rattle.setfile.specs.Literal.{spare, number, isOutput, isLiteral, place, withLiteral, refusedLiterals, lastLiteral, literalsFrom}
+use Rattle.setfile.specs.Literal.{spare, number, isNegated, isOutput, isLiteral, place, withBit, withLiteral, refusedLiterals, lastLiteral, literalsFrom}
 
 pub below-16 : (first : ℕ) → number first < 16
 below-16 first = omega arith
@@ -51,3 +52,45 @@ module _ (r n next : ℕ) (c : Constraint) (body : List ℕ) (i : ℕ) where
     pub one-more : isLiteral (getD body i 0) (getD body (i + 1) 0) r n ≡ true → next ≤ place (getD body i 0) → literalsFrom r n next c (drop i body) ≡ literalsFrom r n (place (getD body i 0) + 1) (withLiteral c (getD body i 0) (getD body (i + 1) 0)) (drop (i + 2) body)
     unfolding literalsFrom
     one-more e l = rw (two, e, le-leb _ _ l)
+
+-- a constraint with a literal of point k more, mask by mask: the literal's bit in the one mask that its kind names, and the rank of an output
+abbrev pub inMasks : Constraint → Bool → Bool → ℕ → ℕ → Constraint
+inMasks c out negated k rank = record {
+  «read_plain» = bitOr (c .«read_plain») (cond (not out && not negated) (2 ^ k) 0);
+  «read_negated» = bitOr (c .«read_negated») (cond (not out && negated) (2 ^ k) 0);
+  «out_plain» = bitOr (c .«out_plain») (cond (out && not negated) (2 ^ k) 0);
+  «out_negated» = bitOr (c .«out_negated») (cond (out && negated) (2 ^ k) 0);
+  ranks = cond out (store (c .ranks) k rank) (c .ranks);
+}
+
+pub literal-masks : (c : Constraint) (first rank : ℕ) → inMasks c (isOutput first) (isNegated first) (number first) rank ≡ withLiteral c first rank
+unfolding withLiteral
+literal-masks c first rank = go (isOutput first) (isNegated first)
+  where
+    k : ℕ
+    k = number first
+
+    rp : bitOr (c .«read_plain») 0 ≡ c .«read_plain»
+    rp = or-zero-r (c .«read_plain»)
+
+    rn : bitOr (c .«read_negated») 0 ≡ c .«read_negated»
+    rn = or-zero-r (c .«read_negated»)
+
+    op : bitOr (c .«out_plain») 0 ≡ c .«out_plain»
+    op = or-zero-r (c .«out_plain»)
+
+    on : bitOr (c .«out_negated») 0 ≡ c .«out_negated»
+    on = or-zero-r (c .«out_negated»)
+
+    go : (out negated : Bool) → inMasks c out negated k rank
+        ≡ cond out
+        (cond negated
+        (record { «read_plain» = c .«read_plain»; «read_negated» = c .«read_negated»; «out_plain» = c .«out_plain»; «out_negated» = withBit (c .«out_negated») k; ranks = store (c .ranks) k rank })
+        (record { «read_plain» = c .«read_plain»; «read_negated» = c .«read_negated»; «out_plain» = withBit (c .«out_plain») k; «out_negated» = c .«out_negated»; ranks = store (c .ranks) k rank }))
+        (cond negated
+        (record { «read_plain» = c .«read_plain»; «read_negated» = withBit (c .«read_negated») k; «out_plain» = c .«out_plain»; «out_negated» = c .«out_negated»; ranks = c .ranks })
+        (record { «read_plain» = withBit (c .«read_plain») k; «read_negated» = c .«read_negated»; «out_plain» = c .«out_plain»; «out_negated» = c .«out_negated»; ranks = c .ranks }))
+    go true true = λ i. record { «read_plain» = rp i; «read_negated» = rn i; «out_plain» = op i; «out_negated» = withBit (c .«out_negated») k; ranks = store (c .ranks) k rank }
+    go true false = λ i. record { «read_plain» = rp i; «read_negated» = rn i; «out_plain» = withBit (c .«out_plain») k; «out_negated» = on i; ranks = store (c .ranks) k rank }
+    go false true = λ i. record { «read_plain» = rp i; «read_negated» = withBit (c .«read_negated») k; «out_plain» = op i; «out_negated» = on i; ranks = c .ranks }
+    go false false = λ i. record { «read_plain» = withBit (c .«read_plain») k; «read_negated» = rn i; «out_plain» = op i; «out_negated» = on i; ranks = c .ranks }

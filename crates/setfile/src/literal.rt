@@ -4,9 +4,9 @@ use super::numbers::NO_OUTPUT;
 use super::numbers::NOT_RISING;
 use scan::Constraint;
 ghost use mathlib.Core.Path.{_≡_};
-ghost use mathlib.Core.Bool.{true};
-ghost use Prim.Native.Nat.{_≤_, _<_, _%_};
-ghost use lib.ListN.{length};
+ghost use mathlib.Core.Bool.{true, cond, _&&_};
+ghost use Prim.Native.Nat.{_≤_, _<_, _%_, _^_};
+ghost use lib.ListN.{length, set};
 ghost use Rattle.scan.specs.Set.{zeroConstraint};
 ghost use Rattle.setfile.specs.Literal.{isOutput, isNegated, spare, number, place, isLiteral, withLiteral, literalsOf, refusedLiterals};
 
@@ -76,30 +76,59 @@ fn is_literal(first: u8, rank: u8, r: usize, n: usize) -> bool
     number < r
 }
 
-// The constraint with one literal more. An output's number is below 12.
+// Whether both tests pass.
+fn both(a: bool, b: bool) -> bool
+    ensures { λ r. ⌜ r ≡ (a && b) ⌝ }
+{
+    if a { b } else { false }
+}
+
+// The bit of a read literal's point if the test passes, else none.
+fn read_bit(test: bool, first: u8) -> u32
+    ensures { λ r. ⌜ r ≡ cond test (2 ^ number first) 0 ⌝ }
+{
+    let number = number_of(first);
+    if test { 1u32 << number } else { 0 }
+}
+
+// The bit of an output literal's point if the test passes, else none.
+fn output_bit(test: bool, first: u8) -> u16
+    ensures { λ r. ⌜ r ≡ cond test (2 ^ number first) 0 ⌝ }
+{
+    let number = number_of(first);
+    if test { 1u16 << number } else { 0 }
+}
+
+// The ranks, with the rank of an output literal. An output's number is below 12.
+fn with_rank(ranks: [u8; 12], first: u8, rank: u8) -> [u8; 12]
+    requires { ⌜ (isOutput first ≡ true → number first < 12) ⌝ }
+    ensures { λ r. ⌜ r ≡ cond (isOutput first) (set ranks (number first) rank) ranks ⌝ }
+{
+    let mut more = ranks;
+    if is_output(first) {
+        let number = number_of(first);
+        more[number] = rank;
+        return more;
+    }
+    more
+}
+
+// The constraint with one literal more, with no branch by its kind. An output's number is below 12.
 fn with_literal(made: Constraint, first: u8, rank: u8) -> Constraint
     requires { ⌜ (isOutput first ≡ true → number first < 12) ⌝ }
     ensures { λ r. ⌜ r ≡ withLiteral made first rank ⌝ }
 {
-    let mut c = made;
-    let number = number_of(first);
-    if is_output(first) {
-        let bit = 1u16 << number;
-        c.ranks[number] = rank;
-        if is_negated(first) {
-            c.out_negated = c.out_negated | bit;
-            return c;
-        }
-        c.out_plain = c.out_plain | bit;
-        return c;
+    let out = is_output(first);
+    let negated = is_negated(first);
+    let own = made.ranks;
+    let ranks = with_rank(own, first, rank);
+    Constraint {
+        read_plain: made.read_plain | read_bit(both(!out, !negated), first),
+        read_negated: made.read_negated | read_bit(both(!out, negated), first),
+        out_plain: made.out_plain | output_bit(both(out, !negated), first),
+        out_negated: made.out_negated | output_bit(both(out, negated), first),
+        ranks,
     }
-    let bit = 1u32 << number;
-    if is_negated(first) {
-        c.read_negated = c.read_negated | bit;
-        return c;
-    }
-    c.read_plain = c.read_plain | bit;
-    c
 }
 
 fn zero_constraint() -> Constraint

@@ -93,76 +93,6 @@ fn counts_at(s: &[u8]) -> Loading
     }
 }
 
-fn read_at(s: &[u8], at: usize, set: Set, i: usize) -> Loading
-    requires { ⌜ i < 16 ⌝ }
-    ensures { λ r. ⌜ r ≡ readAt (now (s .entry)) at set i ⌝ }
-{
-    let front = front_at(s, at, TAG_READ, 0);
-    let header = front.header;
-    let here = front.at;
-    match header {
-        Header::Refused(c) => refused(c, here),
-        Header::Field(_, len) => {
-            let f = read_field(&s[here + 3..here + 3 + len], set, i);
-            let p = f.point;
-            match p {
-                Point::Refused(c) => refused(c, here),
-                Point::Good => {
-                    let read = f.read;
-                    let mut more = set;
-                    more.reads[i] = read;
-                    going_on(here + 3 + len, more)
-                }
-            }
-        }
-    }
-}
-
-fn output_at(s: &[u8], at: usize, set: Set, j: usize) -> Loading
-    requires { ⌜ (set .r ≤ 16) × (j < 12) ⌝ }
-    ensures { λ r. ⌜ r ≡ outputAt (now (s .entry)) at set j ⌝ }
-{
-    let front = front_at(s, at, TAG_OUTPUT, 0);
-    let header = front.header;
-    let here = front.at;
-    match header {
-        Header::Refused(c) => refused(c, here),
-        Header::Field(_, len) => {
-            let f = output_field(&s[here + 3..here + 3 + len], set, j);
-            let p = f.point;
-            match p {
-                Point::Refused(c) => refused(c, here),
-                Point::Good => {
-                    let output = f.output;
-                    let mut more = set;
-                    more.outputs[j] = output;
-                    going_on(here + 3 + len, more)
-                }
-            }
-        }
-    }
-}
-
-// A constraint whose header has been read.
-fn constraint_at(s: &[u8], at: usize, len: usize, set: Set) -> Loading
-    requires { ⌜ (at + 3 + len ≤ length (now s)) × (len % 2 ≡ 0) × (set .n ≤ 12) × (set .m < 64) ⌝ }
-    ensures { λ r. ⌜ r ≡ constraintAt (now (s .entry)) at len set ⌝ }
-{
-    let f = literals_of(&s[at + 3..at + 3 + len], set.r, set.n);
-    let p = f.taken;
-    match p {
-        Taken::Refused(c) => refused(c, at),
-        Taken::Next(_) => {
-            let made = f.made;
-            let m = set.m;
-            let mut more = set;
-            more.constraints[m] = made;
-            more.m = m + 1;
-            going_on(at + 3 + len, more)
-        }
-    }
-}
-
 fn reads_at(s: &[u8], at: usize, set: Set) -> Loading
     requires { ⌜ set .r ≤ 16 ⌝ }
     ensures { λ r. ⌜ r ≡ readsFrom (now (s .entry)) (set .r) 0 at set ⌝ }
@@ -172,14 +102,22 @@ fn reads_at(s: &[u8], at: usize, set: Set) -> Loading
     let mut so_far = set;
     let mut i: usize = 0;
     while i < r {
-        let l = read_at(s, next, so_far, i);
-        let p = l.progress;
-        match p {
-            Progress::Refused(_, _) => return l,
-            Progress::At(k) => {
-                next = k;
-                let more = l.set;
-                so_far = more;
+        let front = front_at(s, next, TAG_READ, 0);
+        let header = front.header;
+        let here = front.at;
+        match header {
+            Header::Refused(c) => return refused(c, here),
+            Header::Field(_, len) => {
+                let f = read_field(&s[here + 3..here + 3 + len], so_far, i);
+                let point = f.point;
+                match point {
+                    Point::Refused(c) => return refused(c, here),
+                    Point::Good => {
+                        let read = f.read;
+                        so_far.reads[i] = read;
+                        next = here + 3 + len;
+                    }
+                }
             }
         }
         i = i + 1;
@@ -196,14 +134,22 @@ fn outputs_at(s: &[u8], at: usize, set: Set) -> Loading
     let mut so_far = set;
     let mut j: usize = 0;
     while j < n {
-        let l = output_at(s, next, so_far, j);
-        let p = l.progress;
-        match p {
-            Progress::Refused(_, _) => return l,
-            Progress::At(k) => {
-                next = k;
-                let more = l.set;
-                so_far = more;
+        let front = front_at(s, next, TAG_OUTPUT, 0);
+        let header = front.header;
+        let here = front.at;
+        match header {
+            Header::Refused(c) => return refused(c, here),
+            Header::Field(_, len) => {
+                let f = output_field(&s[here + 3..here + 3 + len], so_far, j);
+                let point = f.point;
+                match point {
+                    Point::Refused(c) => return refused(c, here),
+                    Point::Good => {
+                        let output = f.output;
+                        so_far.outputs[j] = output;
+                        next = here + 3 + len;
+                    }
+                }
             }
         }
         j = j + 1;
@@ -230,14 +176,16 @@ fn constraints_at(s: &[u8], at: usize, set: Set) -> Loading
                     }
                     return going_on(here + 3, so_far);
                 }
-                let l = constraint_at(s, here, len, so_far);
-                let p = l.progress;
-                match p {
-                    Progress::Refused(_, _) => return l,
-                    Progress::At(k) => {
-                        next = k;
-                        let more = l.set;
-                        so_far = more;
+                let f = literals_of(&s[here + 3..here + 3 + len], so_far.r, so_far.n);
+                let taken = f.taken;
+                match taken {
+                    Taken::Refused(c) => return refused(c, here),
+                    Taken::Next(_) => {
+                        let made = f.made;
+                        let m = so_far.m;
+                        so_far.constraints[m] = made;
+                        so_far.m = m + 1;
+                        next = here + 3 + len;
                     }
                 }
             }

@@ -1,82 +1,81 @@
--- `setfile::literal::with_literal` meets its contract: each `return` is a case of `withLiteral`. Assumes nothing.
-use mathlib.Core.Path.{sym, _∙_}
-use native.Mathlib.Omega.{arith}
-use Rattle.setfile.specs.Literal.{number, withLiteral}
-use Rattle.words.proofs.Shifts.{one-shl}
-use Rattle.setfile.proofs.LiteralLaws.{below-16}
+-- `setfile::literal::with_literal` meets its contract: the masks are those of `withLiteral`, whatever the literal's kind. Assumes nothing.
+use mathlib.Core.Path.{ap, ap₂, _∙_}
+use mathlib.Core.Bool.{cond, not, _&&_}
+use Prim.Native.Nat.{_^_}
+use lib.Bits.{bitOr}
+use Rattle.setfile.specs.Literal.{number}
 use borrow.Author.Needs.{needs}
+use Rattle.setfile.proofs.LiteralLaws.{literal-masks}
 use Rattle.setfile.proofs.literal.with_literal.Statement.{statement}
 use Rattle.setfile.proofs.literal.with_literal.Tie as tie
-
-number-of-requires : tie.Need-number-of-requires
-number-of-requires c κs = search needs
 
 is-output-requires : tie.Need-is-output-requires
 is-output-requires c κs = search needs
 
-cast-bit : tie.Need-cast-bit
-cast-bit c = search needs
-
-shl-bit : tie.Need-shl-bit
-shl-bit c = search needs
-
-element-write-c : tie.Need-element-write-c
-element-write-c c = rw (c .before .before .number-of .ensures) (c .before .before .before .pre (sym (c .before .is-output .ensures) ∙ c .if1 .taken))
-
 is-negated-requires : tie.Need-is-negated-requires
 is-negated-requires c κs = search needs
 
+with-rank-requires : tie.Need-with-rank-requires
+with-rank-requires c κs = c .before .before .before .pre
+
+both-requires : tie.Need-both-requires
+both-requires c κs = search needs
+
+read-bit-requires : tie.Need-read-bit-requires
+read-bit-requires c κs = search needs
+
+both-requires-2 : tie.Need-both-requires-2
+both-requires-2 c κs = search needs
+
+read-bit-requires-2 : tie.Need-read-bit-requires-2
+read-bit-requires-2 c κs = search needs
+
+both-requires-3 : tie.Need-both-requires-3
+both-requires-3 c κs = search needs
+
+output-bit-requires : tie.Need-output-bit-requires
+output-bit-requires c κs = search needs
+
+both-requires-4 : tie.Need-both-requires-4
+both-requires-4 c κs = search needs
+
+output-bit-requires-2 : tie.Need-output-bit-requires-2
+output-bit-requires-2 c κs = search needs
+
 returns : tie.Need-returns
-unfolding withLiteral
 returns c =
-    let k = number (c .before .before .before .before .before .args .first) in
-    rw (c .before .before .before .before .number-of .ensures, one-shl 16 k (below-16 (c .before .before .before .before .before .args .first)))
-    (simp (sym (c .before .before .before .is-output .ensures) ∙ c .before .before .if1 .taken, sym (c .before .is-negated .ensures) ∙ c .if2 .taken))
-
-returns-2 : tie.Need-returns-2
-unfolding withLiteral
-returns-2 c =
-    let k = number (c .before .before .before .before .before .args .first) in
-    rw (c .before .before .before .before .number-of .ensures, one-shl 16 k (below-16 (c .before .before .before .before .before .args .first)))
-    (simp (sym (c .before .before .before .is-output .ensures) ∙ c .before .before .if1 .taken, sym (c .before .is-negated .ensures) ∙ c .if2 .left))
-
-cast-bit-2 : tie.Need-cast-bit-2
-cast-bit-2 c = search needs
-
-shl-bit-2 : tie.Need-shl-bit-2
-shl-bit-2 c = search needs
-
-is-negated-requires-2 : tie.Need-is-negated-requires-2
-is-negated-requires-2 c κs = search needs
-
-returns-3 : tie.Need-returns-3
-unfolding withLiteral
-returns-3 c =
-    let k = number (c .before .before .before .before .before .args .first) in
-    rw (c .before .before .before .before .number-of .ensures, one-shl 32 k (omega (arith, below-16 (c .before .before .before .before .before .args .first))))
-    (simp (sym (c .before .before .before .is-output .ensures) ∙ c .before .before .if1 .left, sym (c .before .is-negated2 .ensures) ∙ c .if3 .taken))
-
-returns-4 : tie.Need-returns-4
-unfolding withLiteral
-returns-4 c =
-    let k = number (c .before .before .before .before .before .args .first) in
-    rw (c .before .before .before .before .number-of .ensures, one-shl 32 k (omega (arith, below-16 (c .before .before .before .before .before .args .first))))
-    (simp (sym (c .before .before .before .is-output .ensures) ∙ c .before .before .if1 .left, sym (c .before .is-negated2 .ensures) ∙ c .if3 .left))
+    let d = c .before .before .before .before .before .before .before .before .before .before .before .before in
+    let a = d .before .before .before .before .args in
+    let k = number (a .first) in
+    let o = d .before .before .before .is-output .ensures in
+    let g = d .before .before .is-negated .ensures in
+    let rp = c .before .before .before .before .before .before .before .before .before .before .read-bit .ensures ∙ ap (λ t. cond t (2 ^ k) 0) (c .before .before .before .before .before .before .before .before .before .before .before .both .ensures ∙ ap₂ (λ x y. not x && not y) o g) in
+    let rn = c .before .before .before .before .before .before .before .read-bit2 .ensures ∙ ap (λ t. cond t (2 ^ k) 0) (c .before .before .before .before .before .before .before .before .both2 .ensures ∙ ap₂ (λ x y. not x && y) o g) in
+    let op = c .before .before .before .before .output-bit .ensures ∙ ap (λ t. cond t (2 ^ k) 0) (c .before .before .before .before .before .both3 .ensures ∙ ap₂ (λ x y. x && not y) o g) in
+    let on = c .before .output-bit2 .ensures ∙ ap (λ t. cond t (2 ^ k) 0) (c .before .before .both4 .ensures ∙ ap₂ (λ x y. x && y) o g) in
+    let m = a .made in
+    (λ i. record {
+      «read_plain» = bitOr (m .«read_plain») (rp i);
+      «read_negated» = bitOr (m .«read_negated») (rn i);
+      «out_plain» = bitOr (m .«out_plain») (op i);
+      «out_negated» = bitOr (m .«out_negated») (on i);
+      ranks = d .with-rank .ensures i;
+    })
+    ∙ literal-masks m (a .first) (a .rank)
 
 pub with-literal-spec : {M : Type 1} → statement M
 with-literal-spec =
     tie.close
     (tie.spec
-    number-of-requires
     is-output-requires
-    cast-bit
-    shl-bit
-    element-write-c
     is-negated-requires
-    returns
-    returns-2
-    cast-bit-2
-    shl-bit-2
-    is-negated-requires-2
-    returns-3
-    returns-4)
+    with-rank-requires
+    both-requires
+    read-bit-requires
+    both-requires-2
+    read-bit-requires-2
+    both-requires-3
+    output-bit-requires
+    both-requires-4
+    output-bit-requires-2
+    returns)

@@ -1,14 +1,15 @@
 -- `setfile::loader::constraints_at` meets its contract. The loop's invariant: the fields from here on, on the set so far, give what all of them give on the set at the start. Assumes nothing.
-use mathlib.Core.Path.{_≡_, sym, _∙_, ap}
-use Prim.Native.Nat.{_+_, _-_, _≤_, _<_}
+use mathlib.Core.Path.{_≡_, refl, sym, _∙_, ap}
+use Prim.Native.Nat.{_+_, _-_, _%_, _≤_, _<_}
 use native.Mathlib.Omega.{arith}
 use lib.ListN.{length, drop}
 use denote.Ref.{now}
 use Rattle.setfile.specs.declared.header.Header.the-variants.{Field}
 use Rattle.setfile.specs.Header.{headerOf}
-use Rattle.setfile.specs.Load.{constraintsFrom}
+use Rattle.setfile.specs.Load.{refusal, goingOn, withConstraint, constraintsFrom}
 use Rattle.setfile.proofs.HeaderLaws.{field-within, constraint-length, front-place, front-header}
-use Rattle.setfile.proofs.Keeps.{constraint-adds, constraints-stopped, bytes-follow, constraints-end, constraints-stay, constraints-go}
+use Rattle.setfile.proofs.LoadLaws.{body-long, constraint-done}
+use Rattle.setfile.proofs.Keeps.{constraints-stopped, bytes-follow, constraints-end, constraints-stay, constraints-go}
 use borrow.Author.Needs.{needs}
 use Rattle.setfile.proofs.loader.constraints_at.Statement.{statement}
 use Rattle.setfile.proofs.loader.constraints_at.Tie as tie
@@ -94,53 +95,85 @@ returns-3 c =
     let s = now (h .before .before .before .args .s) in
     c .going-on .ensures ∙ constraints-end s _ (h .front-at .result .at) (l .so-far) (l .inv .1) (so-far h) _ _ (here k) (t .if1 .taken) (c .before .if2 .left)
 
-constraint-at-requires : tie.Need-constraint-at-requires Inv-loop μ-loop
-constraint-at-requires c κs =
-    let k = c .before in
-    let b = constraint-length _ _ _ _ (c .if1 .left) (here k) in
-    (whole k, b .1, k .before .before .before .before .loop .inv .0, b .2)
+-- what the header of a constraint tells
+limits : (c : tie.Else1 Inv-loop μ-loop) → (c .before .before .header2 .given .0 .1 .0 ≤ 48) × (c .before .before .header2 .given .0 .1 .0 % 2 ≡ 0) × (c .before .before .before .before .before .loop .so-far .m < 64)
+limits c = constraint-length _ _ _ _ (c .if1 .left) (here (c .before))
+
+add-literals-of : tie.Need-add-literals-of Inv-loop μ-loop
+add-literals-of c = omega (arith, whole (c .before), c .before .before .before .before .before .before .before .good)
+
+add-literals-of-2 : tie.Need-add-literals-of-2 Inv-loop μ-loop
+add-literals-of-2 c = omega (arith, whole (c .before), c .before .before .before .before .before .before .before .good)
+
+add-literals-of-3 : tie.Need-add-literals-of-3 Inv-loop μ-loop
+add-literals-of-3 c = omega (arith, whole (c .before), c .before .before .before .before .before .before .before .good)
+
+sub-literals-of : tie.Need-sub-literals-of Inv-loop μ-loop
+sub-literals-of c = omega arith
+
+part-literals-of-start : tie.Need-part-literals-of-start Inv-loop μ-loop
+part-literals-of-start c = search needs
+
+part-literals-of-end : tie.Need-part-literals-of-end Inv-loop μ-loop
+part-literals-of-end c = whole (c .before)
+
+literals-of-requires : tie.Need-literals-of-requires Inv-loop μ-loop
+literals-of-requires c κs =
+    let k = c .before .before in
+    let h = k .before .before .before in
+    (ap (λ x. x % 2) (body-long (now (h .before .before .before .args .s)) _ _ (whole k)) ∙ limits (c .before) .1, h .before .loop .inv .0)
+
+enum-known-taken : tie.Need-enum-known-taken Inv-loop μ-loop
+enum-known-taken c = search needs
+
+refused-requires-3 : tie.Need-refused-requires-3 Inv-loop μ-loop
+refused-requires-3 c κs = search needs
+
+returns-4 : tie.Need-returns-4 Inv-loop μ-loop
+returns-4 c =
+    let f = c .before .before .before .before in
+    let e = f .before .before in
+    let k = e .before in
+    let h = k .before .before .before in
+    let l = h .before .loop in
+    let s = now (h .before .before .before .args .s) in
+    c .refused3 .ensures
+    ∙ constraints-stay s _ (h .front-at .result .at) (l .so-far) (l .inv .1) (so-far h) _ _ (here k) (e .if1 .left) (refusal _ (h .front-at .result .at))
+    (sym (constraint-done s _ _ (l .so-far) (f .literals-of .result) _ (f .literals-of .ensures) (c .before .before .taken .given .1))) _ _ refl
 
 enum-told : tie.Need-enum-told Inv-loop μ-loop
 enum-told c = search needs
 
-returns-4 : tie.Need-returns-4 Inv-loop μ-loop
-returns-4 c =
-    let f = c .before .before in
-    let k = f .before .before in
-    let h = k .before .before .before in
-    let l = h .before .loop in
-    let s = now (h .before .before .before .args .s) in
-    constraints-stay s _ (h .front-at .result .at) (l .so-far) (l .inv .1) (so-far h) _ _ (here k) (f .before .if1 .left) (f .constraint-at .result) (f .constraint-at .ensures)
-    _ _ (c .enum-told .given .1)
+mul-made : tie.Need-mul-made Inv-loop μ-loop
+mul-made c = omega (arith, limits (c .before .before .before .before .before))
 
-enum-known-p : tie.Need-enum-known-p Inv-loop μ-loop
-enum-known-p c = search needs
+element-set-from-made : tie.Need-element-set-from-made Inv-loop μ-loop
+element-set-from-made c = omega (arith, limits (c .before .before .before .before .before))
 
--- the set has one constraint more, and had room for it
-added : (c : tie.After-more Inv-loop μ-loop) → (c .before .before .before .before .constraint-at .result .set .n ≡ c .before .before .before .before .before .before .before .before .before .before .loop .so-far .n) × (c .before .before .before .before .constraint-at .result .set .m ≡ c .before .before .before .before .before .before .before .before .before .before .loop .so-far .m + 1) × (c .before .before .before .before .before .before .before .before .before .before .loop .so-far .m < 64)
-added c =
-    let f = c .before .before .before .before in
-    let k = f .before .before in
-    let h = k .before .before .before in
-    let l = h .before .loop in
-    let s = now (h .before .before .before .args .s) in
-    let e = constraint-adds s (h .front-at .result .at) (k .before .header2 .given .0 .1 .0) (l .so-far) (f .constraint-at .result) _ (f .constraint-at .ensures) (c .before .before .p .given .1) in
-    (e .0, e .1, constraint-length _ _ _ _ (f .before .if1 .left) (here k) .2)
+add-so-far : tie.Need-add-so-far Inv-loop μ-loop
+add-so-far c = omega (arith, limits (c .before .before .before .before .before))
+
+add-next : tie.Need-add-next Inv-loop μ-loop
+add-next c = omega (arith, whole (c .before .before .before .before .before .before), c .before .before .before .before .before .before .before .before .before .before .before .before .good)
+
+add-next-2 : tie.Need-add-next-2 Inv-loop μ-loop
+add-next-2 c = omega (arith, whole (c .before .before .before .before .before .before), c .before .before .before .before .before .before .before .before .before .before .before .before .good)
 
 loop-less : tie.Need-loop-less Inv-loop μ-loop
-loop-less c = omega (arith, added c)
+loop-less c = omega (arith, limits (c .before .before .before .before .before))
 
 loop-again : tie.Need-loop-again Inv-loop μ-loop
 loop-again c =
-    let f = c .before .before .before .before in
-    let k = f .before .before in
+    let f = c .before .before .before in
+    let e = f .before .before in
+    let k = e .before in
     let h = k .before .before .before in
     let l = h .before .loop in
     let s = now (h .before .before .before .args .s) in (
-      omega (arith, added c, l .inv),
-      omega (arith, added c),
-      constraints-go s _ (h .front-at .result .at) (l .so-far) (l .inv .1) (so-far h) _ _ (here k) (f .before .if1 .left) (f .constraint-at .result) (f .constraint-at .ensures)
-          _ (c .before .before .p .given .1),
+      l .inv .0,
+      omega (arith, limits e),
+      constraints-go s _ (h .front-at .result .at) (l .so-far) (l .inv .1) (so-far h) _ _ (here k) (e .if1 .left) (goingOn _ (withConstraint (l .so-far) (f .literals-of .result .made)))
+          (sym (constraint-done s _ _ (l .so-far) (f .literals-of .result) _ (f .literals-of .ensures) (c .before .enum-told .given .1))) _ refl,
     )
 
 pub constraints-at-spec : {M : Type 1} → statement M
@@ -162,9 +195,21 @@ constraints-at-spec =
     add-going-on
     going-on-requires
     returns-3
-    constraint-at-requires
-    enum-told
+    add-literals-of
+    add-literals-of-2
+    add-literals-of-3
+    sub-literals-of
+    part-literals-of-start
+    part-literals-of-end
+    literals-of-requires
+    enum-known-taken
+    refused-requires-3
     returns-4
-    enum-known-p
+    enum-told
+    mul-made
+    element-set-from-made
+    add-so-far
+    add-next
+    add-next-2
     loop-less
     loop-again)
