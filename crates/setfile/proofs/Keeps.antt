@@ -90,9 +90,6 @@ module _ (one : ℕ → Set → ℕ → Loading) (all : ℕ → ℕ → ℕ → 
       next-field : whole ≡ andThen (one at set i) (all (count - (i + 1)) (i + 1))
       next-field = let k : count - i ≡ suc (count - (i + 1)) = omega arith in inv ∙ ap (λ (k : ℕ). all k i at set) k ∙ row .more (count - (i + 1)) i at set
 
-      pub row-kept : (place : ℕ) → l .progress ≡ At place → Kept set (l .set)
-      row-kept = subst (Keeps set) (sym e) (row .keeps at set i)
-
       pub row-stays : (number place : ℕ) → l .progress ≡ Refused number place → l ≡ whole
       row-stays number place p = stays l (one at set i) (all (count - (i + 1)) (i + 1)) e number place p ∙ sym next-field
 
@@ -150,7 +147,7 @@ module _ (s : List ℕ) where
   constraint-done-adds at len set (Next next) x q e = (refl, refl)
 
   -- a constraint more
-  pub constraint-adds : (at len : ℕ) (set : Set) (l : Loading) (q : ℕ) → l ≡ constraintAt s at len set → l .progress ≡ At q → (l .set .n ≡ set .n) × (l .set .m ≡ set .m + 1)
+  constraint-adds : (at len : ℕ) (set : Set) (l : Loading) (q : ℕ) → l ≡ constraintAt s at len set → l .progress ≡ At q → (l .set .n ≡ set .n) × (l .set .m ≡ set .m + 1)
   unfolding constraintAt
   constraint-adds at len set l q e p =
       let got = literalsOf (set .r) (set .n) (bodyOf (drop at s) len) in
