@@ -1,3 +1,4 @@
+pub mod NameLists
 pub mod Shapes
 pub mod Finds
 pub mod Points

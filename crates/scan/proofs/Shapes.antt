@@ -2,26 +2,26 @@
 -- Assumes nothing.
 use mathlib.Core.Path.{_≡_, refl, sym, ap, ap₂, _∙_}
 use mathlib.Core.List.{List, [], _∷_, _++_, map, append-assoc}
-use mathlib.Core.Bool.{Bool, true, false, cond, _&&_, _||_}
-use Prim.Native.Nat.{ℕ, suc, _+_, _-_, _^_, _≤_, _<_}
+use mathlib.Core.Bool.{Bool, true, false, not, _&&_, _||_}
+use Prim.Native.Nat.{ℕ, zero, suc, _+_, _-_, _^_, _≤_, _<_}
+use native.Mathlib.Nat.{add-zero}
 use native.Mathlib.Numerals.{add-one}
 use native.Mathlib.Omega.{arith}
 use lib.Dec.{eqb, leb, ltb}
 use lib.ListN.{length, length-map, getD, take, set, replicate}
 use lib.Seq.{set-at, take-suc, length-take-le}
 use lib.Bits.{bitAnd}
-use borrow.Author.Tests.{eq-eqb, le-leb, lt-leb, leb-true, lt-ltb, le-ltb}
+use borrow.Author.Tests.{eq-eqb, le-leb, lt-leb, leb-true, lt-ltb, ltb-true, ltb-false}
 use Rattle.words.specs.Word.{bit}
 use Rattle.words.specs.Loop.{every, all}
-use Rattle.words.proofs.Bools.{and-unit, and-false, and-assoc, and-on, every-at}
-use Rattle.scan.specs.declared.set.Kind.{Kind}
-use Rattle.scan.specs.declared.set.Kind.the-variants.{Sensor, PastOutput, PastSensor}
-use Rattle.scan.specs.declared.set.ReadPoint.{ReadPoint}
+use Rattle.words.proofs.Bools.{by-test, clash, same-truth, and-true, or-true, or-left, or-right, cond-true, cond-false, and-unit, and-false, and-assoc, and-on, every-at}
+use Rattle.words.proofs.Steps.{all-none, all-more}
+use Rattle.words.proofs.Loops.{all-true, all-at, first-spec}
 use Rattle.scan.specs.declared.set.Constraint.{Constraint}
 use Rattle.scan.specs.declared.set.Set.{Set}
-use Rattle.scan.specs.Set.{readPoint, rank, outs}
-use Rattle.scan.specs.Names.{nameByte, zeroAt, nameLength, placeOk, nameOk, nameZero}
-use Rattle.scan.specs.Shape.{countTests, lengthTests, isSensor, kindOk, readPlace, outputPlace, rankOk, constraintTests, rankZero, constraintZero, constraintPlace, setTests, wellFormed}
+use Rattle.scan.specs.Set.{rank, outs}
+use Rattle.scan.specs.Names.{nameByte, zeroAt, nameLength, placeOk, nameOk, nameZero, nextOk}
+use Rattle.scan.specs.Shape.{countTests, lengthTests, readPlace, outputPlace, rankOk, constraintTests, rankZero, constraintZero, constraintPlace, setTests, wellFormed}
 
 -- ---- lengths
 
@@ -46,16 +46,72 @@ pad-one b k h l =
     ∙ ap (λ (xs : List ℕ). xs ++ replicate (8 - (k + 1)) 0) (take-suc b k 0 h)
     ∙ append-assoc (take k b) (getD b k 0 ∷ []) (replicate (8 - (k + 1)) 0))
 
--- byte place k is right for a name of `end` bytes
-abbrev pub placeAt : List ℕ → ℕ → ℕ → Bool
-placeAt name end k = cond (ltb k end) (nameByte (getD name k 0)) (zeroAt name k)
+-- byte place k is right behind the one before it
+abbrev pub followsOk : List ℕ → ℕ → Bool
+followsOk name k = nextOk (getD name (k - 1) 0) (getD name k 0)
 
-pub name-tests : (name : List ℕ) (end : ℕ) (ok x : Bool) → length name ≡ 8 → end ≡ nameLength name → ok ≡ all 8 (placeAt name end)
-    → x ≡ (ltb 0 end && ok) → x ≡ nameOk name
-unfolding nameOk placeOk
-name-tests name end ok x long ee eo ex =
-    ex ∙ ap (λ (b : Bool). ltb 0 end && b) (eo ∙ sym (and-unit (all 8 (placeAt name end))))
-    ∙ ap (λ (e : ℕ). ltb 0 e && (all 8 (placeAt name e) && true)) ee ∙ sized (length name) 8 _ long
+module _ (name : List ℕ) where
+  -- once all places follow rightly, those from the first zero on are zeros
+  zeros-on : ((k : ℕ) → k < 8 → followsOk name k ≡ true) → (d : ℕ) → nameLength name + d < 8 → zeroAt name (nameLength name + d) ≡ true
+  unfolding nextOk nameLength
+  zeros-on f zero h = ap (zeroAt name) (add-zero (nameLength name)) ∙ first-spec 8 (zeroAt name) .here (omega arith)
+  zeros-on f (suc d) h =
+      let l = nameLength name + d in
+      let e : nameLength name + suc d ≡ l + 1 = omega arith in
+      let back : l + 1 - 1 ≡ l = omega arith in
+      let before : eqb (getD name (l + 1 - 1) 0) 0 ≡ true = ap (zeroAt name) back ∙ zeros-on f d (omega arith) in
+      let b = getD name (l + 1) 0 in
+      ap (zeroAt name) e ∙ by-test (eqb b 0) (λ t. t)
+      (λ t. clash (and-true (nameByte b) _ (or-true (eqb b 0) _ (f (l + 1) (omega arith)) t) .1) (ap not before))
+
+  pub follows-none : not (zeroAt name 0) ≡ (not (zeroAt name 0) && all 0 (followsOk name))
+  follows-none = sym (and-unit (not (zeroAt name 0))) ∙ ap (λ (x : Bool). not (zeroAt name 0) && x) (sym (all-none (followsOk name)))
+
+  pub follows-more : (k : ℕ) (ok r x : Bool) → ok ≡ (not (zeroAt name 0) && all k (followsOk name)) → r ≡ followsOk name k → x ≡ (ok && r)
+      → x ≡ (not (zeroAt name 0) && all (k + 1) (followsOk name))
+  follows-more k ok r x eo er ex =
+      let z = not (zeroAt name 0) in
+      ex ∙ ap₂ _&&_ eo er ∙ sym (and-assoc z (all k (followsOk name)) (followsOk name k)) ∙ ap (λ (y : Bool). z && y) (sym (all-more k (followsOk name)))
+
+  module _ (long : length name ≡ 8) where
+    rightly : not (zeroAt name 0) && all 8 (followsOk name) ≡ true → nameOk name ≡ true
+    unfolding nameOk placeOk nextOk nameLength
+    rightly e =
+        let l = nameLength name in
+        let s = first-spec 8 (zeroAt name) in
+        let p = and-true (not (zeroAt name 0)) (all 8 (followsOk name)) e in
+        let f : (k : ℕ) → k < 8 → followsOk name k ≡ true = all-at 8 (followsOk name) (p .1) in
+        let some : 0 < l =
+        by-test (ltb 0 l) (λ t. ltb-true 0 l t)
+        (λ t. let none : l ≡ 0 = omega (arith, ltb-false 0 l t) in clash (p .0) (ap not (ap (zeroAt name) (sym none) ∙ s .here (omega arith)))) in
+        let place : (k : ℕ) → k < 8 → placeOk name k ≡ true =
+        λ k h. by-test (ltb k l)
+        (λ t. sym (cond-true (ltb k l) (nameByte (getD name k 0)) (zeroAt name k) t)
+        ∙ and-true (nameByte (getD name k 0)) _ (or-true (zeroAt name k) _ (f k h) (s .before k (ltb-true k l t))) .0)
+        (λ t. let on : k ≡ l + (k - l) = omega (arith, ltb-false k l t) in
+        sym (cond-false (ltb k l) (nameByte (getD name k 0)) (zeroAt name k) t) ∙ ap (zeroAt name) on ∙ zeros-on f (k - l) (omega arith)) in
+        rw (eq-eqb (length name) 8 long, lt-ltb 0 l some, all-true 8 (placeOk name) place)
+
+    wrongly : nameOk name ≡ true → not (zeroAt name 0) && all 8 (followsOk name) ≡ true
+    unfolding nameOk placeOk nextOk nameLength
+    wrongly e =
+        let l = nameLength name in
+        let s = first-spec 8 (zeroAt name) in
+        let a = and-true (ltb 0 l) _ (and-true (eqb (length name) 8) _ e .1) in
+        let some : 0 < l = ltb-true 0 l (a .0) in
+        let place : (k : ℕ) → k < 8 → placeOk name k ≡ true = all-at 8 (placeOk name) (and-true (all 8 (placeOk name)) true (a .1) .0) in
+        let follows : (k : ℕ) → k < 8 → followsOk name k ≡ true =
+        λ k h. by-test (zeroAt name k) (λ t. or-left (zeroAt name k) _ t)
+        (λ t. by-test (ltb k l)
+        (λ u. or-right (zeroAt name k) _
+        (ap₂ (λ (x y : Bool). x && not y) (cond-true (ltb k l) (nameByte (getD name k 0)) (zeroAt name k) u ∙ place k h)
+        (s .before (k - 1) (omega (arith, ltb-true k l u)))))
+        (λ u. clash (cond-false (ltb k l) (nameByte (getD name k 0)) (zeroAt name k) u ∙ place k h) t)) in
+        ap₂ (λ (x y : Bool). not x && y) (s .before 0 some) (all-true 8 (followsOk name) follows)
+
+    -- the places follow each other rightly, and the first is no zero, exactly where they hold a name
+    pub name-follows : (ok : Bool) → ok ≡ (not (zeroAt name 0) && all 8 (followsOk name)) → ok ≡ nameOk name
+    name-follows ok e = e ∙ same-truth _ _ rightly wrongly
 
 pub name-zeros : (name : List ℕ) (ok : Bool) → length name ≡ 8 → ok ≡ all 8 (zeroAt name) → ok ≡ nameZero name
 unfolding nameZero
@@ -93,25 +149,6 @@ module _ (r n m : ℕ) where
   pub counts-told : every (countTests r n m) ≡ true → (r ≤ 16) × (n ≤ 12)
   unfolding countTests
   counts-told e = (leb-true r 16 (every-at (countTests r n m) e 0), leb-true n 12 (every-at (countTests r n m) e 2))
-
--- ---- kinds
-
-module _ (reads : List ReadPoint) (n k : ℕ) where
-  pub kind-sensor : (q : Kind) → q ≡ Sensor → true ≡ kindOk reads n k q
-  unfolding kindOk
-  kind-sensor q e = ap (kindOk reads n k) (sym e)
-
-  pub kind-output : (q : Kind) (i : ℕ) → q ≡ PastOutput i → ltb i n ≡ kindOk reads n k q
-  unfolding kindOk
-  kind-output q i e = ap (kindOk reads n k) (sym e)
-
-  pub kind-earlier : (q : Kind) (i : ℕ) (b : Bool) → q ≡ PastSensor i → i < k → b ≡ isSensor (readPoint reads i .kind) → b ≡ kindOk reads n k q
-  unfolding kindOk
-  kind-earlier q i b e l eb = eb ∙ and-on (ltb i k) _ (lt-ltb i k l) ∙ ap (kindOk reads n k) (sym e)
-
-  pub kind-later : (q : Kind) (i : ℕ) → q ≡ PastSensor i → k ≤ i → false ≡ kindOk reads n k q
-  unfolding kindOk
-  kind-later q i e l = ap (λ (b : Bool). b && isSensor (readPoint reads i .kind)) (sym (le-ltb i k l)) ∙ ap (kindOk reads n k) (sym e)
 
 -- ---- constraints
 

@@ -9,14 +9,12 @@ use super::set::OutputPoint;
 use super::set::ReadPoint;
 use super::set::Set;
 ghost use mathlib.Core.Path.{_≡_};
-ghost use mathlib.Core.Bool.{false, cond};
+ghost use mathlib.Core.Bool.{false};
 ghost use Prim.Native.Nat.{_≤_, min};
-ghost use lib.Dec.{eqb};
 ghost use lib.ListN.{length};
-ghost use Rattle.words.specs.Loop.{all};
 ghost use Rattle.scan.specs.declared.names.NameRead.{NameRead};
 ghost use Rattle.scan.specs.Set.{zeroName};
-ghost use Rattle.scan.specs.Names.{nameByte, allNameBytes, padded, zeroAt, nameLength, nameRead, nameOk, nameZero, sameName, firstRead, firstOutput, isUsed};
+ghost use Rattle.scan.specs.Names.{nameByte, allNameBytes, padded, nextOk, nameRead, nameOk, nameZero, sameName, firstRead, firstOutput, isUsed, firstName, ReadNames, OutputNames};
 
 // Whether a name may have the byte.
 pub fn is_name_byte(b: u8) -> bool
@@ -82,39 +80,27 @@ pub fn read_name(bytes: &[u8]) -> NameRead
     NameRead { good: true, name }
 }
 
-// The number of bytes before the first zero.
-fn name_length(name: [u8; NAME_PLACES]) -> usize
-    ensures { λ r. ⌜ r ≡ nameLength name ⌝ }
+// A zero, or a name byte behind a byte that is no zero.
+fn is_next_ok(before: u8, b: u8) -> bool
+    ensures { λ r. ⌜ r ≡ nextOk before b ⌝ }
 {
-    let mut k: usize = 0;
-    while k < NAME_PLACES {
-        if name[k] == 0 {
-            return k;
-        }
-        k = k + 1;
-    }
-    k
-}
-
-// A name byte before the name's end, a zero after it.
-fn is_place_ok(inside: bool, b: u8) -> bool
-    ensures { λ r. ⌜ r ≡ cond inside (nameByte b) (eqb b 0) ⌝ }
-{
-    if inside { is_name_byte(b) } else { b == 0 }
+    either(b == 0, both(is_name_byte(b), before != 0))
 }
 
 // Whether the places hold 1 to 8 name bytes and then zeros.
 pub fn is_name(name: [u8; NAME_PLACES]) -> bool
     ensures { λ r. ⌜ r ≡ nameOk name ⌝ }
 {
-    let end = name_length(name);
-    let mut ok = true;
+    let mut before = name[0];
+    let mut ok = before != 0;
     let mut k: usize = 0;
     while k < NAME_PLACES {
-        ok = both(ok, is_place_ok(k < end, name[k]));
+        let b = name[k];
+        ok = both(ok, is_next_ok(before, b));
+        before = b;
         k = k + 1;
     }
-    both(0 < end, ok)
+    ok
 }
 
 // Whether all places are zero.
@@ -178,6 +164,77 @@ pub fn first_output(
         k = k + 1;
     }
     j
+}
+
+// The names of the read points, for functions to which they are lent.
+pub fn read_names(reads: [ReadPoint; MOST_READS]) -> [[u8; NAME_PLACES]; MOST_READS]
+    ensures { λ r. ⌜ ReadNames r reads ⌝ }
+{
+    let none = [0u8; NAME_PLACES];
+    let mut names = [none; MOST_READS];
+    let mut k: usize = 0;
+    while k < MOST_READS {
+        let p = reads[k];
+        let name = p.name;
+        names[k] = name;
+        k = k + 1;
+    }
+    names
+}
+
+// The names of the outputs.
+pub fn output_names(outputs: [OutputPoint; MOST_OUTPUTS]) -> [[u8; NAME_PLACES]; MOST_OUTPUTS]
+    ensures { λ r. ⌜ OutputNames r outputs ⌝ }
+{
+    let none = [0u8; NAME_PLACES];
+    let mut names = [none; MOST_OUTPUTS];
+    let mut k: usize = 0;
+    while k < MOST_OUTPUTS {
+        let p = outputs[k];
+        let name = p.name;
+        names[k] = name;
+        k = k + 1;
+    }
+    names
+}
+
+// The first of the first i names that is the name, or i.
+pub fn first_of_reads(
+    names: &[[u8; NAME_PLACES]; MOST_READS],
+    i: usize,
+    name: [u8; NAME_PLACES],
+) -> usize
+    requires { ⌜ i ≤ 16 ⌝ }
+    ensures { λ r. ⌜ r ≡ firstName (now (names .entry)) i name ⌝ }
+{
+    let mut k: usize = 0;
+    while k < i {
+        let own = names[k];
+        if is_same_name(own, name) {
+            return k;
+        }
+        k = k + 1;
+    }
+    i
+}
+
+pub fn first_of_outputs(
+    names: &[[u8; NAME_PLACES]; MOST_OUTPUTS],
+    i: usize,
+    name: [u8; NAME_PLACES],
+) -> usize
+    requires { ⌜ i ≤ 12 ⌝ }
+    ensures { λ r. ⌜ r ≡ firstName (now (names .entry)) i name ⌝ }
+{
+    let mut k: usize = 0;
+    while k < i {
+        let own = names[k];
+        if is_same_name(own, name) {
+            return k;
+        }
+        k = k + 1;
+    }
+    i
 }
 
 // Whether one of the first i read points or of the first j outputs of the set has the name.

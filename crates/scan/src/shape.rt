@@ -1,16 +1,20 @@
 // When a set is well formed: when some file loads to it.
 use super::choice::both;
 use super::choice::either;
-use super::names::first_output;
-use super::names::first_read;
+use super::choice::keep32;
+use super::names::first_of_outputs;
+use super::names::first_of_reads;
 use super::names::is_name;
 use super::names::is_zero_name;
+use super::names::output_names;
+use super::names::read_names;
 use super::set::Constraint;
 use super::set::Kind;
 use super::set::MOST_CONSTRAINTS;
 use super::set::MOST_OUTPUTS;
 use super::set::MOST_POINTS;
 use super::set::MOST_READS;
+use super::set::NAME_PLACES;
 use super::set::OutputPoint;
 use super::set::ReadPoint;
 use super::set::Set;
@@ -18,8 +22,8 @@ ghost use mathlib.Core.Path.{_≡_};
 ghost use mathlib.Core.Bool.{cond};
 ghost use Prim.Native.Nat.{_≤_, _<_};
 ghost use Rattle.words.specs.Loop.{every, all};
-ghost use Rattle.scan.specs.Set.{readPoint, outputPoint};
-ghost use Rattle.scan.specs.Shape.{countTests, isSensor, kindOk, readOk, readZero, readPlace, outputOk, outputPlace, rankOk, rankZero, constraintTests, constraintZero, constraintPlace, wellFormed};
+ghost use Rattle.scan.specs.Names.{ReadNames};
+ghost use Rattle.scan.specs.Shape.{countTests, isSensor, sensorsOf, kindBy, readBy, readZero, readPlaceBy, readPlace, outputBy, outputPlaceBy, rankOk, rankZero, constraintTests, constraintZero, constraintPlace, wellFormed};
 
 fn are_counts_ok(r: usize, n: usize, m: usize) -> bool
     ensures { λ x. ⌜ x ≡ every (countTests r n m) ⌝ }
@@ -42,36 +46,51 @@ pub fn is_sensor(kind: Kind) -> bool
     }
 }
 
+// The word of the sensors among the read points.
+fn sensors_of(reads: [ReadPoint; MOST_READS]) -> u32
+    ensures { λ r. ⌜ r ≡ sensorsOf reads ⌝ }
+{
+    let mut w: u32 = 0;
+    let mut k: usize = 0;
+    while k < MOST_READS {
+        let p = reads[k];
+        let kind = p.kind;
+        w = w | keep32(is_sensor(kind), 1u32 << k);
+        k = k + 1;
+    }
+    w
+}
+
 // Whether read point k, of a set of n outputs, may have the kind.
-fn is_kind_ok(reads: [ReadPoint; MOST_READS], n: usize, k: usize, kind: Kind) -> bool
-    requires { ⌜ k < 16 ⌝ }
-    ensures { λ r. ⌜ r ≡ kindOk reads n k kind ⌝ }
+fn is_kind_ok(sensors: u32, n: usize, k: usize, kind: Kind) -> bool
+    ensures { λ r. ⌜ r ≡ kindBy sensors n k kind ⌝ }
 {
     match kind {
         Kind::Sensor => true,
         Kind::PastOutput(i) => (i as usize) < n,
         Kind::PastSensor(i) => {
             let at = i as usize;
-            if at < k {
-                let p = reads[at];
-                let q = p.kind;
-                return is_sensor(q);
-            }
-            false
+            both(at < k, words::bit32(at, sensors))
         }
     }
 }
 
-fn is_read_ok(reads: [ReadPoint; MOST_READS], n: usize, k: usize) -> bool
+// Whether read point k is right, given the names of the read points and the word of the sensors.
+fn is_read_ok(
+    names: &[[u8; NAME_PLACES]; MOST_READS],
+    sensors: u32,
+    n: usize,
+    k: usize,
+    p: ReadPoint,
+) -> bool
     requires { ⌜ k < 16 ⌝ }
-    ensures { λ r. ⌜ r ≡ readOk reads n k ⌝ }
+    ensures { λ r. ⌜ r ≡ readBy (now (names .entry)) sensors n k p ⌝ }
 {
-    let p = reads[k];
     let kind = p.kind;
     let name = p.name;
     both(
-        is_kind_ok(reads, n, k, kind),
-        both(is_name(name), first_read(reads, k, name) == k),
+        is_kind_ok(sensors, n, k, kind),
+        both(is_name(name), first_of_reads(names, k, name) == k),
     )
 }
 
@@ -83,77 +102,90 @@ fn is_read_zero(p: ReadPoint) -> bool
     both(is_sensor(kind), is_zero_name(name))
 }
 
-fn is_read_place_ok(reads: [ReadPoint; MOST_READS], r: usize, n: usize, k: usize) -> bool
+fn is_read_place_ok(
+    names: &[[u8; NAME_PLACES]; MOST_READS],
+    sensors: u32,
+    r: usize,
+    n: usize,
+    k: usize,
+    p: ReadPoint,
+) -> bool
     requires { ⌜ k < 16 ⌝ }
-    ensures { λ x. ⌜ x ≡ readPlace reads r n k ⌝ }
+    ensures { λ x. ⌜ x ≡ readPlaceBy (now (names .entry)) sensors r n k p ⌝ }
 {
     if k < r {
-        is_read_ok(reads, n, k)
+        is_read_ok(names, sensors, n, k, p)
     } else {
-        let p = reads[k];
         is_read_zero(p)
     }
 }
 
-fn are_reads_ok(reads: [ReadPoint; MOST_READS], r: usize, n: usize) -> bool
+fn are_reads_ok(
+    names: &[[u8; NAME_PLACES]; MOST_READS],
+    reads: [ReadPoint; MOST_READS],
+    r: usize,
+    n: usize,
+) -> bool
+    requires { ⌜ ReadNames (now names) reads ⌝ }
     ensures { λ x. ⌜ x ≡ all 16 (readPlace reads r n) ⌝ }
 {
+    let sensors = sensors_of(reads);
     let mut ok = true;
     let mut k: usize = 0;
     while k < MOST_READS {
-        ok = both(ok, is_read_place_ok(reads, r, n, k));
+        let p = reads[k];
+        ok = both(ok, is_read_place_ok(names, sensors, r, n, k, p));
         k = k + 1;
     }
     ok
 }
 
-fn is_output_ok(
-    reads: [ReadPoint; MOST_READS],
+// Whether output j is right, given the names of the points.
+fn is_output_ok<'a>(
+    reads: &'a [[u8; NAME_PLACES]; MOST_READS],
     r: usize,
-    outputs: [OutputPoint; MOST_OUTPUTS],
+    outputs: &'a [[u8; NAME_PLACES]; MOST_OUTPUTS],
     j: usize,
 ) -> bool
     requires { ⌜ (r ≤ 16) × (j < 12) ⌝ }
-    ensures { λ x. ⌜ x ≡ outputOk reads r outputs j ⌝ }
+    ensures { λ x. ⌜ x ≡ outputBy (now (reads .entry)) r (now (outputs .entry)) j ⌝ }
 {
-    let p = outputs[j];
-    let name = p.name;
+    let name = outputs[j];
     both(
         is_name(name),
         both(
-            first_read(reads, r, name) == r,
-            first_output(outputs, j, name) == j,
+            first_of_reads(reads, r, name) == r,
+            first_of_outputs(outputs, j, name) == j,
         ),
     )
 }
 
-fn is_output_place_ok(
-    reads: [ReadPoint; MOST_READS],
+fn is_output_place_ok<'a>(
+    reads: &'a [[u8; NAME_PLACES]; MOST_READS],
     r: usize,
-    outputs: [OutputPoint; MOST_OUTPUTS],
+    outputs: &'a [[u8; NAME_PLACES]; MOST_OUTPUTS],
     n: usize,
     j: usize,
 ) -> bool
     requires { ⌜ (r ≤ 16) × (j < 12) ⌝ }
-    ensures { λ x. ⌜ x ≡ outputPlace reads r outputs n j ⌝ }
+    ensures { λ x. ⌜ x ≡ outputPlaceBy (now (reads .entry)) r (now (outputs .entry)) n j ⌝ }
 {
     if j < n {
         is_output_ok(reads, r, outputs, j)
     } else {
-        let p = outputs[j];
-        let name = p.name;
+        let name = outputs[j];
         is_zero_name(name)
     }
 }
 
-fn are_outputs_ok(
-    reads: [ReadPoint; MOST_READS],
+fn are_outputs_ok<'a>(
+    reads: &'a [[u8; NAME_PLACES]; MOST_READS],
     r: usize,
-    outputs: [OutputPoint; MOST_OUTPUTS],
+    outputs: &'a [[u8; NAME_PLACES]; MOST_OUTPUTS],
     n: usize,
 ) -> bool
     requires { ⌜ r ≤ 16 ⌝ }
-    ensures { λ x. ⌜ x ≡ all 12 (outputPlace reads r outputs n) ⌝ }
+    ensures { λ x. ⌜ x ≡ all 12 (outputPlaceBy (now (reads .entry)) r (now (outputs .entry)) n) ⌝ }
 {
     let mut ok = true;
     let mut j: usize = 0;
@@ -256,12 +288,11 @@ pub fn well_formed(set: Set) -> bool
     if are_counts_ok(r, n, m) {
         let reads = set.reads;
         let outputs = set.outputs;
+        let names = read_names(reads);
+        let own = output_names(outputs);
         return both(
-            are_reads_ok(reads, r, n),
-            both(
-                are_outputs_ok(reads, r, outputs, n),
-                are_constraints_ok(set),
-            ),
+            are_reads_ok(&names, reads, r, n),
+            both(are_outputs_ok(&names, r, &own, n), are_constraints_ok(set)),
         );
     }
     false

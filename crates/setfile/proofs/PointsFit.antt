@@ -1,15 +1,14 @@
 -- A point that fits at its place of the points before it, which are all that decide it.
 -- Assumes nothing.
 use mathlib.Core.Path.{_≡_, refl, sym, _∙_, ap, ap₂}
-use mathlib.Core.Bool.{Bool, true, false, _&&_, _||_}
+use mathlib.Core.Bool.{true, false, _&&_, _||_}
 use mathlib.Core.List.{List}
 use Prim.Native.Nat.{ℕ, _<_}
 use native.Mathlib.Omega.{arith}
 use lib.Dec.{ltb}
 use borrow.Author.Tests.{ltb-true, ltb-false, le-ltb, eq-eqb}
-use Rattle.words.specs.Loop.{first}
-use Rattle.words.proofs.Bools.{by-test, and-true, or-false}
-use Rattle.words.proofs.Loops.{first-is, first-none, first-spec}
+use Rattle.words.proofs.Bools.{and-true, or-false}
+use Rattle.words.proofs.Loops.{first-cong, first-spec}
 use Rattle.scan.specs.declared.set.Kind.{Kind}
 use Rattle.scan.specs.declared.set.Kind.the-variants.{Sensor, PastOutput, PastSensor}
 use Rattle.scan.specs.declared.set.ReadPoint.{ReadPoint}
@@ -53,14 +52,6 @@ fits-output reads r outputs j f =
 
 -- ---- only the places before count
 
-first-same : (n : ℕ) (p q : ℕ → Bool) → ((k : ℕ) → k < n → p k ≡ q k) → first n p ≡ first n q
-first-same n p q e =
-    let s = first-spec n q in
-    let w = s .within in
-    by-test (ltb (first n q) n)
-    (λ t. let l = ltb-true (first n q) n t in first-is n (first n q) p l (e (first n q) l ∙ s .here l) (λ j h. e j (omega arith) ∙ s .before j h))
-    (λ t. let l = ltb-false (first n q) n t in first-none n p (λ j h. e j h ∙ s .before j (omega arith)) ∙ omega arith)
-
 kind-same : (n : ℕ) (a b : List ReadPoint) (i : ℕ) (kind : Kind) → ((k : ℕ) → k < i → readPoint a k ≡ readPoint b k) → kindOk a n i kind ≡ true → kindOk b n i kind ≡ true
 unfolding kindOk
 kind-same n a b i Sensor s e = refl
@@ -75,7 +66,7 @@ unfolding firstRead readNamed
 read-local n a b i p s f = record {
   kind-ok = kind-same n a b i (p .kind) s (f .kind-ok);
   name-ok = f .name-ok;
-  own = first-same i (readNamed b (p .name)) (readNamed a (p .name)) (λ k h. ap (λ (q : ReadPoint). sameName (q .name) (p .name)) (sym (s k h))) ∙ f .own;
+  own = first-cong i (readNamed b (p .name)) (readNamed a (p .name)) (λ k h. ap (λ (q : ReadPoint). sameName (q .name) (p .name)) (sym (s k h))) ∙ f .own;
 }
 
 -- So does an output.
@@ -85,7 +76,7 @@ unfolding firstOutput outputNamed
 output-local reads r a b j p s f = record {
   name-ok = f .name-ok;
   no-read = f .no-read;
-  own = first-same j (outputNamed b (p .name)) (outputNamed a (p .name)) (λ k h. ap (λ (q : OutputPoint). sameName (q .name) (p .name)) (sym (s k h))) ∙ f .own;
+  own = first-cong j (outputNamed b (p .name)) (outputNamed a (p .name)) (λ k h. ap (λ (q : OutputPoint). sameName (q .name) (p .name)) (sym (s k h))) ∙ f .own;
 }
 
 -- ---- a name that is not used

@@ -6,10 +6,10 @@ use Prim.Native.Nat.{ℕ, zero, suc, _+_, _-_, _^_, _≤_, _<_}
 use native.Mathlib.Nat.{not-suc-le-zero, add-zero, add-suc, suc-add, zero-add, mod-eq-of-lt}
 use native.Mathlib.Decide.{ℕ-discrete, decLe}
 use native.Mathlib.Omega.{arith}
-use lib.Dec.{eqb}
+use lib.Dec.{eqb, ltb}
 use lib.Pow.{pow-pos, pow-lt}
 use lib.Bits.{bitOr, or-lt, and-mask}
-use borrow.Author.Tests.{eq-eqb, ne-eqb}
+use borrow.Author.Tests.{eq-eqb, ne-eqb, ltb-true, ltb-false}
 use Rattle.words.specs.Word.{bit}
 use Rattle.words.specs.Loop.{gather, place, word, some, all, firstFrom, first}
 use Rattle.words.proofs.Bools.{by-test, clash, or-true, and-true, and-false}
@@ -65,6 +65,11 @@ pub all-true : (n : ℕ) (p : ℕ → Bool) → ((k : ℕ) → k < n → p k ≡
 unfolding all
 all-true zero p h = refl
 all-true (suc n) p h = ap₂ _&&_ (all-true n p (λ k l. h k (omega arith))) (h n (omega arith))
+
+pub all-cong : (n : ℕ) (p q : ℕ → Bool) → ((k : ℕ) → k < n → p k ≡ q k) → all n p ≡ all n q
+unfolding all
+all-cong zero p q h = refl
+all-cong (suc n) p q h = ap₂ _&&_ (all-cong n p q (λ k l. h k (omega arith))) (h n (omega arith))
 
 pub all-at : (n : ℕ) (p : ℕ → Bool) → all n p ≡ true → (k : ℕ) → k < n → p k ≡ true
 unfolding all
@@ -143,6 +148,14 @@ least p t e = go (first (suc t) p) (first-spec (suc t) p)
         low : Dec (k ≤ t) → (k : ℕ) × (k ≤ t) × (p k ≡ true) × ((j : ℕ) → j < k → p j ≡ false)
         low (yes h) = (k, h, f .here (omega arith), f .before)
         low (no nh) = clash e (f .before t (omega arith))
+
+pub first-cong : (n : ℕ) (p q : ℕ → Bool) → ((k : ℕ) → k < n → p k ≡ q k) → first n p ≡ first n q
+first-cong n p q e =
+    let s = first-spec n q in
+    let w = s .within in
+    by-test (ltb (first n q) n)
+    (λ t. let l = ltb-true (first n q) n t in first-is n (first n q) p l (e (first n q) l ∙ s .here l) (λ j h. e j (omega arith) ∙ s .before j h))
+    (λ t. let l = ltb-false (first n q) n t in first-none n p (λ j h. e j h ∙ s .before j (omega arith)) ∙ omega arith)
 
 pub some-first : (n : ℕ) (p : ℕ → Bool) → some n p ≡ true → (k : ℕ) × (k < n) × (p k ≡ true) × ((j : ℕ) → j < k → p j ≡ false)
 some-first n p e = let a = some-at n p e in let l = least p (a .0) (a .2) in (l .0, omega arith, l .2, l .3)

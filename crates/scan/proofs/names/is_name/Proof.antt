@@ -1,33 +1,36 @@
--- `scan::names::is_name` meets its contract. The loop's invariant: `ok` tells whether the places before k are right. Assumes nothing.
-use mathlib.Core.Path.{_≡_}
-use Prim.Native.Nat.{_-_}
-use lib.ListN.{length}
-use Rattle.words.proofs.Rounds.{Passed, passed-none, passed-one, passed-all}
-use Rattle.scan.proofs.Shapes.{placeAt, name-tests}
+-- `scan::names::is_name` meets its contract. The loop's invariant: `ok` tells whether the first place is no zero and the places before k are right. Assumes nothing.
+use mathlib.Core.Path.{_≡_, refl, ap, _∙_}
+use mathlib.Core.Bool.{not, _&&_}
+use Prim.Native.Nat.{ℕ, _+_, _-_, _≤_}
+use native.Mathlib.Omega.{arith}
+use lib.ListN.{length, getD}
+use Rattle.words.specs.Loop.{all}
+use Rattle.scan.specs.Names.{zeroAt, nextOk}
+use Rattle.scan.proofs.Shapes.{followsOk, follows-none, follows-more, name-follows}
 use borrow.Author.Needs.{needs}
 use Rattle.scan.proofs.names.is_name.Statement.{statement}
 use Rattle.scan.proofs.names.is_name.Tie as tie
 
 abbrev Inv-loop : tie.InvT-loop
-Inv-loop name end ok₀ k₀ ok k = Passed 8 (placeAt name end) ok k
+Inv-loop name before₀ ok₀ k₀ before ok k = (k ≤ 8) × (before ≡ getD name (k - 1) 0) × (ok ≡ (not (zeroAt name 0) && all k (followsOk name)))
 
 abbrev μ-loop : tie.MeasureT-loop
-μ-loop name end ok₀ k₀ ok k = 8 - k
+μ-loop name before₀ ok₀ k₀ before ok k = 8 - k
 
 long : (c : tie.Start Inv-loop μ-loop) → length (c .args .t1) ≡ 8
 long c = search needs
 
-name-length-requires : tie.Need-name-length-requires Inv-loop μ-loop
-name-length-requires c κs = search needs
+array-read-before : tie.Need-array-read-before Inv-loop μ-loop
+array-read-before c = search needs
 
 loop-holds : tie.Need-loop-holds Inv-loop μ-loop
-loop-holds c = passed-none 8 _
+loop-holds c = (omega arith, refl, follows-none (c .args .t1))
 
-array-read-is-place-ok : tie.Need-array-read-is-place-ok Inv-loop μ-loop
-array-read-is-place-ok c = search needs
+array-read-b : tie.Need-array-read-b Inv-loop μ-loop
+array-read-b c = search needs
 
-is-place-ok-requires : tie.Need-is-place-ok-requires Inv-loop μ-loop
-is-place-ok-requires c κs = search needs
+is-next-ok-requires : tie.Need-is-next-ok-requires Inv-loop μ-loop
+is-next-ok-requires c κs = search needs
 
 both-requires : tie.Need-both-requires Inv-loop μ-loop
 both-requires c κs = search needs
@@ -40,22 +43,23 @@ loop-less c = search needs
 
 loop-again : tie.Need-loop-again Inv-loop μ-loop
 loop-again c =
-    let t = c .before .before in
-    let l = t .before .loop in
-    let n = t .before .before in
-    passed-one 8 (placeAt (n .before .args .t1) (n .name-length .result)) (l .k) (l .ok) (c .before .is-place-ok .result) (c .both .result) (l .inv) (t .loop-test .taken)
-    (c .before .is-place-ok .ensures) (c .both .ensures)
-
-both-requires-2 : tie.Need-both-requires-2 Inv-loop μ-loop
-both-requires-2 c κs = search needs
+    let n = c .before in
+    let l = n .before .before .loop in
+    let name = n .before .before .before .args .t1 in
+    let back : l .k ≡ l .k + 1 - 1 = omega arith in (
+      omega arith,
+      ap (λ (j : ℕ). getD name j 0) back,
+      follows-more name (l .k) (l .ok) (n .is-next-ok .result) (c .both .result) (l .inv .2)
+          (n .is-next-ok .ensures ∙ ap (λ (b : ℕ). nextOk b (getD name (l .k) 0)) (l .inv .1)) (c .both .ensures),
+    )
 
 returns : tie.Need-returns Inv-loop μ-loop
 returns c =
-    let l = c .before .before .loop in
-    let n = c .before .before .before in
-    let name = n .before .args .t1 in
-    name-tests name (n .name-length .result) (l .ok) (c .both2 .result) (long (n .before)) (n .name-length .ensures)
-    (passed-all 8 (placeAt name (n .name-length .result)) (l .k) (l .ok) (l .inv) (c .before .loop-test .left)) (c .both2 .ensures)
+    let l = c .before .loop in
+    let s = c .before .before in
+    let name = s .args .t1 in
+    let all-passed : l .k ≡ 8 = omega arith in
+    name-follows name (long s) (l .ok) (l .inv .2 ∙ ap (λ (k : ℕ). not (zeroAt name 0) && all k (followsOk name)) all-passed)
 
 pub is-name-spec : {M : Type 1} → statement M
 is-name-spec =
@@ -63,13 +67,12 @@ is-name-spec =
     (tie.spec
     Inv-loop
     μ-loop
-    name-length-requires
+    array-read-before
     loop-holds
-    array-read-is-place-ok
-    is-place-ok-requires
+    array-read-b
+    is-next-ok-requires
     both-requires
     add-k
     loop-less
     loop-again
-    both-requires-2
     returns)

@@ -2,17 +2,11 @@
 use mathlib.Core.Path.{ap}
 use Prim.Native.Nat.{ℕ}
 use lib.Dec.{eqb}
-use Rattle.scan.specs.Shape.{readOk}
+use Rattle.scan.specs.Shape.{readBy}
 use Rattle.scan.proofs.Shapes.{three}
 use borrow.Author.Needs.{needs}
 use Rattle.scan.proofs.shape.is_read_ok.Statement.{statement}
 use Rattle.scan.proofs.shape.is_read_ok.Tie as tie
-
-mul-p : tie.Need-mul-p
-mul-p c = search needs
-
-array-copy-out-p : tie.Need-array-copy-out-p
-array-copy-out-p c = search needs
 
 is-kind-ok-requires : tie.Need-is-kind-ok-requires
 is-kind-ok-requires c κs = search needs
@@ -20,8 +14,8 @@ is-kind-ok-requires c κs = search needs
 is-name-requires : tie.Need-is-name-requires
 is-name-requires c κs = search needs
 
-first-read-requires : tie.Need-first-read-requires
-first-read-requires c κs = search needs
+first-of-reads-requires : tie.Need-first-of-reads-requires
+first-of-reads-requires c κs = search needs
 
 both-requires : tie.Need-both-requires
 both-requires c κs = search needs
@@ -30,24 +24,22 @@ both-requires-2 : tie.Need-both-requires-2
 both-requires-2 c κs = search needs
 
 returns : tie.Need-returns
-unfolding readOk
+unfolding readBy
 returns c =
     let f = c .before .before in
     let n = f .before in
     let k = n .before in
-    let at = k .before .before .before .args .k in
-    three (k .is-kind-ok .result) (n .is-name .result) (eqb (f .first-read .result) at) _ _ _ (c .before .both .result) (c .both2 .result)
-    (k .is-kind-ok .ensures) (n .is-name .ensures) (ap (λ (x : ℕ). eqb x at) (f .first-read .ensures)) (c .before .both .ensures) (c .both2 .ensures)
+    let at = k .before .before .args .k in
+    three (k .is-kind-ok .result) (n .is-name .result) (eqb (f .first-of-reads .result) at) _ _ _ (c .before .both .result) (c .both2 .result)
+    (k .is-kind-ok .ensures) (n .is-name .ensures) (ap (λ (x : ℕ). eqb x at) (f .first-of-reads .ensures)) (c .before .both .ensures) (c .both2 .ensures)
 
 pub is-read-ok-spec : {M : Type 1} → statement M
 is-read-ok-spec =
     tie.close
     (tie.spec
-    mul-p
-    array-copy-out-p
     is-kind-ok-requires
     is-name-requires
-    first-read-requires
+    first-of-reads-requires
     both-requires
     both-requires-2
     returns)

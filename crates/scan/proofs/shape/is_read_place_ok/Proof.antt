@@ -2,9 +2,9 @@
 use mathlib.Core.Path.{_∙_}
 use lib.Dec.{ltb}
 use borrow.Author.Tests.{lt-ltb, le-ltb}
+use denote.Ref.{now}
 use Rattle.words.proofs.Bools.{cond-true, cond-false}
-use Rattle.scan.specs.Set.{readPoint}
-use Rattle.scan.specs.Shape.{readOk, readZero, readPlace}
+use Rattle.scan.specs.Shape.{readBy, readZero}
 use borrow.Author.Needs.{needs}
 use Rattle.scan.proofs.shape.is_read_place_ok.Statement.{statement}
 use Rattle.scan.proofs.shape.is_read_place_ok.Tie as tie
@@ -12,30 +12,21 @@ use Rattle.scan.proofs.shape.is_read_place_ok.Tie as tie
 is-read-ok-requires : tie.Need-is-read-ok-requires
 is-read-ok-requires c κs = search needs
 
-mul-p : tie.Need-mul-p
-mul-p c = search needs
-
-array-copy-out-p : tie.Need-array-copy-out-p
-array-copy-out-p c = search needs
-
 is-read-zero-requires : tie.Need-is-read-zero-requires
 is-read-zero-requires c κs = search needs
 
 returns : tie.Need-returns
-unfolding readPlace
 returns c =
     let t = c .before in
     let a = t .before .args in
-    c .is-read-ok .ensures ∙ cond-true (ltb (a .k) (a .r)) _ (readZero (readPoint (a .t1) (a .k))) (lt-ltb (a .k) (a .r) (t .if1 .taken))
+    c .is-read-ok .ensures ∙ cond-true (ltb (a .k) (a .r)) _ (readZero (a .p)) (lt-ltb (a .k) (a .r) (t .if1 .taken))
 
 returns-2 : tie.Need-returns-2
-unfolding readPlace
 returns-2 c =
-    let t = c .before .before in
+    let t = c .before in
     let a = t .before .args in
-    c .is-read-zero .ensures ∙ cond-false (ltb (a .k) (a .r)) (readOk (a .t1) (a .n) (a .k)) _ (le-ltb (a .k) (a .r) (t .if1 .left))
+    c .is-read-zero .ensures ∙ cond-false (ltb (a .k) (a .r)) (readBy (now (a .names)) (a .sensors) (a .n) (a .k) (a .p)) _ (le-ltb (a .k) (a .r) (t .if1 .left))
 
 pub is-read-place-ok-spec : {M : Type 1} → statement M
 is-read-place-ok-spec =
-    tie.close
-    (tie.spec is-read-ok-requires mul-p array-copy-out-p is-read-zero-requires returns returns-2)
+    tie.close (tie.spec is-read-ok-requires is-read-zero-requires returns returns-2)
