@@ -174,7 +174,7 @@ static bool is_well_formed(const struct set *s)
     return true;
 }
 
-// ---- a read word's table
+// ---- a read word's table. The two loops over its entries have no branch, so that a compiler makes vector instructions of them.
 
 static bool are_reads_true(const struct constraint *c, uint32_t w)
 {
@@ -227,8 +227,10 @@ static uint16_t start_vector(const struct table *t, uint16_t request)
 static uint16_t pass(const struct table *t, uint16_t v)
 {
     uint16_t flips = 0;
-    for (size_t i = 0; i < t->count; i++)
-        flips |= (v & t->named[i]) == t->plain[i] ? t->flip[i] : 0;
+    for (size_t i = 0; i < t->count; i++) {
+        uint16_t flip = t->flip[i];
+        flips |= (v & t->named[i]) == t->plain[i] ? flip : 0;
+    }
     return v ^ flips;
 }
 
@@ -236,10 +238,10 @@ static bool is_safe(const struct table *t, uint16_t v)
 {
     if ((v & t->f1) != t->f1 || (v & t->f0) != 0)
         return false;
-    bool any = false;
+    uint16_t hits = 0;
     for (size_t i = 0; i < t->count; i++)
-        any |= (v & t->named[i]) == t->plain[i];
-    return !any;
+        hits |= (v & t->named[i]) == t->plain[i] ? 1 : 0;
+    return hits == 0;
 }
 
 // ---- the verdict
