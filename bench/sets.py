@@ -1,0 +1,69 @@
+"""Set files and lists of scans for the benchmark, made from fixed seeds. The form of a set file is document 01's."""
+import random
+import struct
+
+
+class Set:
+    """A set as the file has it: names and kinds of points, and constraints as lists of literals (point, is output, negated, rank)."""
+
+    def __init__(self, reads, outputs, constraints):
+        self.reads, self.outputs, self.constraints = reads, outputs, constraints
+
+    def file(self):
+        fields = [(1, bytes([len(self.reads), len(self.outputs)]))]
+        fields += [(2, bytes([0, 0]) + name) for name in self.reads]
+        fields += [(3, name) for name in self.outputs]
+        fields += [(4, b"".join(literal(*l) for l in c)) for c in self.constraints]
+        fields += [(5, b"")]
+        return b"".join(struct.pack(">BH", tag, len(body)) + body for tag, body in fields)
+
+
+def literal(number, is_output, negated, rank):
+    return bytes([negated << 7 | is_output << 6 | number, rank])
+
+
+def names(letter, count):
+    return [b"%s%d" % (letter, k) for k in range(count)]
+
+
+def falling(r, n, m, read_literals, seed):
+    """m combined constraints of 2 to 4 outputs and so many read literals each. The one output of the lowest rank stands plain, so that passes
+    only turn outputs off and every walk reaches a safe vector: the set is accepted."""
+    rng = random.Random(seed)
+    constraints = []
+    for _ in range(m):
+        reads = [(k, False, rng.random() < 0.5, 0) for k in sorted(rng.sample(range(r), min(read_literals, r)))]
+        outputs = sorted(rng.sample(range(n), rng.randint(min(2, n), min(4, n))))
+        lowest = rng.choice(outputs)
+        outs = [(k, True, k != lowest and rng.random() < 0.5, 0 if k == lowest else rng.randint(1, 3)) for k in outputs]
+        constraints.append(reads + outs)
+    return Set(names(b"s", r), names(b"a", n), constraints)
+
+
+def counter(n, splits):
+    """A pass adds 1 to the vector: for each k a constraint "outputs below k on, k off" flips these k + 1 outputs, all of rank 0. Only the vector
+    with all outputs on is safe, so that the walk from 0 takes 2^n - 1 passes. The constraint of k is split by the values of the splits[k] outputs
+    above it (rank 1, so that they never yield): a lone output literal would hold its output, and a longer list of constraints makes a pass longer."""
+    constraints = []
+    for k in range(n):
+        for values in range(1 << splits.get(k, 0)):
+            low = [(j, True, j == k, 0) for j in range(k + 1)]
+            high = [(k + 1 + j, True, values >> j & 1 == 0, 1) for j in range(splits.get(k, 0))]
+            constraints.append(low + high)
+    return Set([], names(b"a", n), constraints)
+
+
+def largest():
+    """The longest file that there is: 16 read points, 8 outputs, names of 8 bytes, 64 constraints of 24 literals."""
+    rng = random.Random(5)
+    constraints = []
+    for _ in range(64):
+        reads = [(k, False, rng.random() < 0.5, 0) for k in range(16)]
+        constraints.append(reads + [(k, True, rng.random() < 0.5, rng.randint(0, 255)) for k in range(8)])
+    return Set([b"sensor%02d" % k for k in range(16)], [b"output%02d" % k for k in range(8)], constraints)
+
+
+def scans(sensors, n, count, seed):
+    """Random sensor words, with bits only at the sensors, and random requests."""
+    rng = random.Random(seed)
+    return [(rng.getrandbits(17) & sensors, rng.getrandbits(n)) for _ in range(count)]
