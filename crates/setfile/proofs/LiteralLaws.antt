@@ -1,9 +1,9 @@
 -- Steps of the definitions on literals.
 -- Assumes nothing.
-use mathlib.Core.Path.{_≡_}
-use mathlib.Core.Bool.{Bool, true, false, cond, not, _&&_}
+use mathlib.Core.Path.{_≡_, sym, ap₂, _∙_}
+use mathlib.Core.Bool.{Bool, true, false, cond}
 use mathlib.Core.List.{List, _∷_}
-use Prim.Native.Nat.{ℕ, suc, _+_, _^_, _≤_, _<_}
+use Prim.Native.Nat.{ℕ, suc, _+_, _≤_, _<_}
 use native.Mathlib.Numerals.{add-one}
 use native.Mathlib.Omega.{arith}
 use lib.Dec.{ltb, eqb}
@@ -13,7 +13,9 @@ use lib.Seq.{drop-cons}
 use borrow.Author.Tests.{le-leb, lt-leb, ltb-true}
 use Rattle.words.proofs.Bools.{and-true}
 use Rattle.scan.specs.declared.set.Constraint.{Constraint}
-use Rattle.setfile.specs.Literal.{spare, number, isNegated, isOutput, isLiteral, place, withBit, withLiteral, refusedLiterals, lastLiteral, literalsFrom}
+use Rattle.setfile.specs.declared.literal.Literals.{Literals}
+use Rattle.setfile.specs.declared.literal.Masks.{Masks}
+use Rattle.setfile.specs.Literal.{spare, number, isNegated, isOutput, isLiteral, place, withBit, inMasks, ofMasks, withLiteral, refusedLiterals, lastLiteral, literalsFrom}
 
 pub below-16 : (first : ℕ) → number first < 16
 below-16 first = omega arith
@@ -53,36 +55,32 @@ module _ (r n next : ℕ) (c : Constraint) (body : List ℕ) (i : ℕ) where
     unfolding literalsFrom
     one-more e l = rw (two, e, le-leb _ _ l)
 
--- a constraint with a literal of point k more, mask by mask: the literal's bit in the one mask that its kind names, and the rank of an output
-abbrev pub inMasks : Constraint → Bool → Bool → ℕ → ℕ → Constraint
-inMasks c out negated k rank = record {
-  «read_plain» = bitOr (c .«read_plain») (cond (not out && not negated) (2 ^ k) 0);
-  «read_negated» = bitOr (c .«read_negated») (cond (not out && negated) (2 ^ k) 0);
-  «out_plain» = bitOr (c .«out_plain») (cond (out && not negated) (2 ^ k) 0);
-  «out_negated» = bitOr (c .«out_negated») (cond (out && negated) (2 ^ k) 0);
-  ranks = cond out (store (c .ranks) k rank) (c .ranks);
-}
-
-pub literal-masks : (c : Constraint) (first rank : ℕ) → inMasks c (isOutput first) (isNegated first) (number first) rank ≡ withLiteral c first rank
+-- a literal more in the masks, and its rank if it is an output's, is a literal more in their constraint
+pub literal-masks : (m : Masks) (ranks : List ℕ) (first rank : ℕ)
+    → ofMasks (inMasks m (isOutput first) (isNegated first) (number first)) (cond (isOutput first) (store ranks (number first) rank) ranks)
+    ≡ withLiteral (ofMasks m ranks) first rank
 unfolding withLiteral
-literal-masks c first rank = go (isOutput first) (isNegated first)
+literal-masks m ranks first rank = go (isOutput first) (isNegated first)
   where
     k : ℕ
     k = number first
 
-    rp : bitOr (c .«read_plain») 0 ≡ c .«read_plain»
-    rp = or-zero-r (c .«read_plain»)
+    c : Constraint
+    c = ofMasks m ranks
 
-    rn : bitOr (c .«read_negated») 0 ≡ c .«read_negated»
-    rn = or-zero-r (c .«read_negated»)
+    rp : bitOr (m .«read_plain») 0 ≡ m .«read_plain»
+    rp = or-zero-r (m .«read_plain»)
 
-    op : bitOr (c .«out_plain») 0 ≡ c .«out_plain»
-    op = or-zero-r (c .«out_plain»)
+    rn : bitOr (m .«read_negated») 0 ≡ m .«read_negated»
+    rn = or-zero-r (m .«read_negated»)
 
-    on : bitOr (c .«out_negated») 0 ≡ c .«out_negated»
-    on = or-zero-r (c .«out_negated»)
+    op : bitOr (m .«out_plain») 0 ≡ m .«out_plain»
+    op = or-zero-r (m .«out_plain»)
 
-    go : (out negated : Bool) → inMasks c out negated k rank
+    on : bitOr (m .«out_negated») 0 ≡ m .«out_negated»
+    on = or-zero-r (m .«out_negated»)
+
+    go : (out negated : Bool) → ofMasks (inMasks m out negated k) (cond out (store ranks k rank) ranks)
         ≡ cond out
         (cond negated
         (record { «read_plain» = c .«read_plain»; «read_negated» = c .«read_negated»; «out_plain» = c .«out_plain»; «out_negated» = withBit (c .«out_negated») k; ranks = store (c .ranks) k rank })
@@ -90,7 +88,22 @@ literal-masks c first rank = go (isOutput first) (isNegated first)
         (cond negated
         (record { «read_plain» = c .«read_plain»; «read_negated» = withBit (c .«read_negated») k; «out_plain» = c .«out_plain»; «out_negated» = c .«out_negated»; ranks = c .ranks })
         (record { «read_plain» = withBit (c .«read_plain») k; «read_negated» = c .«read_negated»; «out_plain» = c .«out_plain»; «out_negated» = c .«out_negated»; ranks = c .ranks }))
-    go true true = λ i. record { «read_plain» = rp i; «read_negated» = rn i; «out_plain» = op i; «out_negated» = withBit (c .«out_negated») k; ranks = store (c .ranks) k rank }
-    go true false = λ i. record { «read_plain» = rp i; «read_negated» = rn i; «out_plain» = withBit (c .«out_plain») k; «out_negated» = on i; ranks = store (c .ranks) k rank }
-    go false true = λ i. record { «read_plain» = rp i; «read_negated» = withBit (c .«read_negated») k; «out_plain» = op i; «out_negated» = on i; ranks = c .ranks }
-    go false false = λ i. record { «read_plain» = withBit (c .«read_plain») k; «read_negated» = rn i; «out_plain» = op i; «out_negated» = on i; ranks = c .ranks }
+    go true true = λ i. record { «read_plain» = rp i; «read_negated» = rn i; «out_plain» = op i; «out_negated» = withBit (m .«out_negated») k; ranks = store ranks k rank }
+    go true false = λ i. record { «read_plain» = rp i; «read_negated» = rn i; «out_plain» = withBit (m .«out_plain») k; «out_negated» = on i; ranks = store ranks k rank }
+    go false true = λ i. record { «read_plain» = rp i; «read_negated» = withBit (m .«read_negated») k; «out_plain» = op i; «out_negated» = on i; ranks = ranks }
+    go false false = λ i. record { «read_plain» = withBit (m .«read_plain») k; «read_negated» = rn i; «out_plain» = op i; «out_negated» = on i; ranks = ranks }
+
+-- a turn of the loop over a body's literals: the next literal's bit in the masks, and the ranks with its own if it is an output's
+pub turned : (r n next : ℕ) (m : Masks) (ranks body : List ℕ) (i : ℕ) → i + 1 < length body
+    → isLiteral (getD body i 0) (getD body (i + 1) 0) r n ≡ true → next ≤ place (getD body i 0)
+    → (whole : Literals) → whole ≡ literalsFrom r n next (ofMasks m ranks) (drop i body)
+    → (at : ℕ) → at ≡ place (getD body i 0)
+    → (after : Masks) → after ≡ inMasks m (isOutput (getD body i 0)) (isNegated (getD body i 0)) (number (getD body i 0))
+    → (ranked : List ℕ) → cond (isOutput (getD body i 0)) (store ranks (number (getD body i 0)) (getD body (i + 1) 0)) ranks ≡ ranked
+    → whole ≡ literalsFrom r n (at + 1) (ofMasks after ranked) (drop (i + 2) body)
+turned r n next m ranks body i h ok rises whole inv at e after masks ranked own =
+    let first = getD body i 0 in
+    let rank = getD body (i + 1) 0 in
+    inv ∙ one-more r n next (ofMasks m ranks) body i h ok rises
+    ∙ ap₂ (λ (x : ℕ) (c : Constraint). literalsFrom r n (x + 1) c (drop (i + 2) body)) (sym e)
+    (sym (literal-masks m ranks first rank) ∙ ap₂ ofMasks (sym masks) own)

@@ -2,7 +2,7 @@
 -- point's number; the second is the rank. Tests 9 and 10 of each literal, front to back, then 11.
 -- Assumes nothing.
 use Prim.Native.Nat.{ℕ, _+_, _%_, _/_, _^_}
-use mathlib.Core.Bool.{Bool, true, false, cond, _&&_}
+use mathlib.Core.Bool.{Bool, true, false, cond, not, _&&_}
 use mathlib.Core.List.{List, [], _∷_}
 use lib.Dec.{ltb, leb, eqb}
 use lib.ListN.{set}
@@ -11,6 +11,7 @@ use Rattle.scan.specs.declared.set.Constraint.{Constraint}
 use Rattle.scan.specs.Set.{zeroConstraint}
 use Rattle.setfile.specs.declared.literal.Taken.the-variants.{Refused, Next}
 use Rattle.setfile.specs.declared.literal.Literals.{Literals}
+use Rattle.setfile.specs.declared.literal.Masks.{Masks}
 
 -- bit 7
 abbrev pub isNegated : ℕ → Bool
@@ -78,3 +79,28 @@ literalsFrom r n next c (first ∷ rank ∷ rest) =
 -- the constraint of a body, for a set of r read points and n outputs
 abbrev pub literalsOf : ℕ → ℕ → List ℕ → Literals
 literalsOf r n body = literalsFrom r n 0 zeroConstraint body
+
+-- ---- the code's way: the masks of the literals taken so far apart from their ranks
+
+-- no literal yet
+abbrev pub noMasks : Masks
+noMasks = record { «read_plain» = 0; «read_negated» = 0; «out_plain» = 0; «out_negated» = 0 }
+
+-- a literal of point k more: its bit in the one mask that its kind names
+abbrev pub inMasks : Masks → Bool → Bool → ℕ → Masks
+inMasks m out negated k = record {
+  «read_plain» = bitOr (m .«read_plain») (cond (not out && not negated) (2 ^ k) 0);
+  «read_negated» = bitOr (m .«read_negated») (cond (not out && negated) (2 ^ k) 0);
+  «out_plain» = bitOr (m .«out_plain») (cond (out && not negated) (2 ^ k) 0);
+  «out_negated» = bitOr (m .«out_negated») (cond (out && negated) (2 ^ k) 0);
+}
+
+-- the constraint of masks and ranks
+abbrev pub ofMasks : Masks → List ℕ → Constraint
+ofMasks m ranks = record {
+  «read_plain» = m .«read_plain»;
+  «read_negated» = m .«read_negated»;
+  «out_plain» = m .«out_plain»;
+  «out_negated» = m .«out_negated»;
+  ranks = ranks;
+}

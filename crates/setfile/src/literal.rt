@@ -6,9 +6,9 @@ use scan::Constraint;
 ghost use mathlib.Core.Path.{_≡_};
 ghost use mathlib.Core.Bool.{true, cond, _&&_};
 ghost use Prim.Native.Nat.{_≤_, _<_, _%_, _^_};
-ghost use lib.ListN.{length, set};
+ghost use lib.ListN.{length};
 ghost use Rattle.scan.specs.Set.{zeroConstraint};
-ghost use Rattle.setfile.specs.Literal.{isOutput, isNegated, spare, number, place, isLiteral, withLiteral, literalsOf, refusedLiterals};
+ghost use Rattle.setfile.specs.Literal.{isOutput, isNegated, spare, number, place, isLiteral, noMasks, inMasks, ofMasks, literalsOf, refusedLiterals};
 
 // The place of output 0 in the order of literals.
 const OUTPUTS_FROM: usize = 16;
@@ -99,34 +99,48 @@ fn output_bit(test: bool, first: u8) -> u16
     if test { 1u16 << number } else { 0 }
 }
 
-// The ranks, with the rank of an output literal. An output's number is below 12.
-fn with_rank(ranks: [u8; 12], first: u8, rank: u8) -> [u8; 12]
-    requires { ⌜ (isOutput first ≡ true → number first < 12) ⌝ }
-    ensures { λ r. ⌜ r ≡ cond (isOutput first) (set ranks (number first) rank) ranks ⌝ }
-{
-    let mut more = ranks;
-    if is_output(first) {
-        let number = number_of(first);
-        more[number] = rank;
-        return more;
-    }
-    more
+// The literals taken so far, as masks.
+pub struct Masks {
+    pub read_plain: u32,
+    pub read_negated: u32,
+    pub out_plain: u16,
+    pub out_negated: u16,
 }
 
-// The constraint with one literal more, with no branch by its kind. An output's number is below 12.
-fn with_literal(made: Constraint, first: u8, rank: u8) -> Constraint
-    requires { ⌜ (isOutput first ≡ true → number first < 12) ⌝ }
-    ensures { λ r. ⌜ r ≡ withLiteral made first rank ⌝ }
+fn no_masks() -> Masks
+    ensures { λ r. ⌜ r ≡ noMasks ⌝ }
+{
+    Masks {
+        read_plain: 0,
+        read_negated: 0,
+        out_plain: 0,
+        out_negated: 0,
+    }
+}
+
+// The masks with one literal more, with no branch by its kind.
+fn with_literal(m: Masks, first: u8) -> Masks
+    ensures { λ r. ⌜ r ≡ inMasks m (isOutput first) (isNegated first) (number first) ⌝ }
 {
     let out = is_output(first);
     let negated = is_negated(first);
-    let own = made.ranks;
-    let ranks = with_rank(own, first, rank);
+    Masks {
+        read_plain: m.read_plain | read_bit(both(!out, !negated), first),
+        read_negated: m.read_negated | read_bit(both(!out, negated), first),
+        out_plain: m.out_plain | output_bit(both(out, !negated), first),
+        out_negated: m.out_negated | output_bit(both(out, negated), first),
+    }
+}
+
+// The constraint of the masks and the ranks.
+fn constraint_of(m: Masks, ranks: [u8; 12]) -> Constraint
+    ensures { λ r. ⌜ r ≡ ofMasks m ranks ⌝ }
+{
     Constraint {
-        read_plain: made.read_plain | read_bit(both(!out, !negated), first),
-        read_negated: made.read_negated | read_bit(both(!out, negated), first),
-        out_plain: made.out_plain | output_bit(both(out, !negated), first),
-        out_negated: made.out_negated | output_bit(both(out, negated), first),
+        read_plain: m.read_plain,
+        read_negated: m.read_negated,
+        out_plain: m.out_plain,
+        out_negated: m.out_negated,
         ranks,
     }
 }
@@ -159,7 +173,8 @@ pub fn literals_of(body: &[u8], r: usize, n: usize) -> Literals
     requires { ⌜ (length (now body) % 2 ≡ 0) × (n ≤ 12) ⌝ }
     ensures { λ l. ⌜ l ≡ literalsOf r n (now (body .entry)) ⌝ }
 {
-    let mut made = zero_constraint();
+    let mut masks = no_masks();
+    let mut ranks = [0u8; 12];
     let mut next = 0;
     let mut i = 0;
     while i < body.len() {
@@ -172,13 +187,18 @@ pub fn literals_of(body: &[u8], r: usize, n: usize) -> Literals
         if place < next {
             return refused_literals(NOT_RISING);
         }
-        made = with_literal(made, first, rank);
+        masks = with_literal(masks, first);
         next = place + 1;
         i = i + 2;
+        if is_output(first) {
+            let number = number_of(first);
+            ranks[number] = rank;
+        }
     }
     if next <= OUTPUTS_FROM {
         return refused_literals(NO_OUTPUT);
     }
+    let made = constraint_of(masks, ranks);
     Literals {
         taken: Taken::Next(next),
         made,

@@ -1,11 +1,10 @@
--- `setfile::literal::with_literal` meets its contract: the masks are those of `withLiteral`, whatever the literal's kind. Assumes nothing.
+-- `setfile::literal::with_literal` meets its contract: each mask has the literal's bit if the literal is of its kind. Assumes nothing.
 use mathlib.Core.Path.{ap, ap₂, _∙_}
 use mathlib.Core.Bool.{cond, not, _&&_}
 use Prim.Native.Nat.{_^_}
 use lib.Bits.{bitOr}
 use Rattle.setfile.specs.Literal.{number}
 use borrow.Author.Needs.{needs}
-use Rattle.setfile.proofs.LiteralLaws.{literal-masks}
 use Rattle.setfile.proofs.literal.with_literal.Statement.{statement}
 use Rattle.setfile.proofs.literal.with_literal.Tie as tie
 
@@ -14,9 +13,6 @@ is-output-requires c κs = search needs
 
 is-negated-requires : tie.Need-is-negated-requires
 is-negated-requires c κs = search needs
-
-with-rank-requires : tie.Need-with-rank-requires
-with-rank-requires c κs = c .before .before .before .pre
 
 both-requires : tie.Need-both-requires
 both-requires c κs = search needs
@@ -45,23 +41,21 @@ output-bit-requires-2 c κs = search needs
 returns : tie.Need-returns
 returns c =
     let d = c .before .before .before .before .before .before .before .before .before .before .before .before in
-    let a = d .before .before .before .before .args in
+    let a = d .before .before .args in
     let k = number (a .first) in
-    let o = d .before .before .before .is-output .ensures in
-    let g = d .before .before .is-negated .ensures in
+    let o = d .before .is-output .ensures in
+    let g = d .is-negated .ensures in
     let rp = c .before .before .before .before .before .before .before .before .before .before .read-bit .ensures ∙ ap (λ t. cond t (2 ^ k) 0) (c .before .before .before .before .before .before .before .before .before .before .before .both .ensures ∙ ap₂ (λ x y. not x && not y) o g) in
     let rn = c .before .before .before .before .before .before .before .read-bit2 .ensures ∙ ap (λ t. cond t (2 ^ k) 0) (c .before .before .before .before .before .before .before .before .both2 .ensures ∙ ap₂ (λ x y. not x && y) o g) in
     let op = c .before .before .before .before .output-bit .ensures ∙ ap (λ t. cond t (2 ^ k) 0) (c .before .before .before .before .before .both3 .ensures ∙ ap₂ (λ x y. x && not y) o g) in
     let on = c .before .output-bit2 .ensures ∙ ap (λ t. cond t (2 ^ k) 0) (c .before .before .both4 .ensures ∙ ap₂ (λ x y. x && y) o g) in
-    let m = a .made in
-    (λ i. record {
+    let m = a .m in
+    λ i. record {
       «read_plain» = bitOr (m .«read_plain») (rp i);
       «read_negated» = bitOr (m .«read_negated») (rn i);
       «out_plain» = bitOr (m .«out_plain») (op i);
       «out_negated» = bitOr (m .«out_negated») (on i);
-      ranks = d .with-rank .ensures i;
-    })
-    ∙ literal-masks m (a .first) (a .rank)
+    }
 
 pub with-literal-spec : {M : Type 1} → statement M
 with-literal-spec =
@@ -69,7 +63,6 @@ with-literal-spec =
     (tie.spec
     is-output-requires
     is-negated-requires
-    with-rank-requires
     both-requires
     read-bit-requires
     both-requires-2
