@@ -4,7 +4,7 @@ pub mod LiteralLaws
 pub mod LoadLaws
 pub mod Columns
 pub mod Keeps
-pub mod BodyLaws
+pub mod LiteralBytes
 pub mod WriteLaws
 pub mod Places
 pub mod Joins

@@ -1,23 +1,27 @@
--- What the proofs of `writer` share: bytes put into a buffer, loops over the fields of a list's elements, the parts of the file, and the answer.
+-- What the proofs of `field` and `writer` share: bytes put into a buffer, loops that put one part behind the other, the parts of the file, and the answer.
 -- Assumes nothing.
 use mathlib.Core.Path.{_≡_, refl, sym, ap, ap₂, subst, _∙_}
 use mathlib.Core.Bool.{true, false}
 use mathlib.Core.List.{List, [], _∷_, _++_, append-assoc, append-nil}
-use Prim.Native.Nat.{ℕ, suc, _+_, _≤_, _<_}
+use Prim.Native.Nat.{ℕ, zero, suc, _+_, _-_, _/_, _%_, _≤_, _<_}
 use native.Mathlib.Nat.{add-zero, zero-add}
 use native.Mathlib.Numerals.{add-one}
 use native.Mathlib.Omega.{arith}
 use lib.ListN.{length, getD, take, drop, set, length-append, length-take, length-drop, take-append-drop}
-use lib.Seq.{take-suc, take-take, set-split, sets-eq, take-at, drop-append-add, drop-drop, length-take-le}
+use lib.Seq.{take-suc, set-split, sets-eq, take-at, drop-append-add, drop-drop, length-take-le}
 use lib.Dec.{leb, ltb}
 use borrow.Author.Tests.{lt-ltb, le-ltb, le-leb, lt-leb}
+use Rattle.words.specs.Loop.{first}
+use Rattle.scan.specs.declared.set.Kind.{Kind}
+use Rattle.scan.specs.declared.set.Kind.the-variants.{Sensor, PastOutput, PastSensor}
+use Rattle.scan.specs.declared.set.ReadPoint.{ReadPoint}
 use Rattle.scan.specs.declared.set.Set.{Set}
-use Rattle.scan.specs.Set.{constraint}
+use Rattle.scan.specs.Set.{noRead, noOutput, noConstraint}
+use Rattle.scan.specs.Names.{zeroAt, nameLength, nameBytes}
 use Rattle.scan.specs.Shape.{wellFormed}
-use Rattle.scan.proofs.Formed.{counts, lengths, masks}
-use Rattle.setfile.specs.Write.{fieldOf, readLiteral, outputLiteral, joined, literalBody, fieldsOf, writeOf, writeAnswer, bufferAfter, readFields, outputFields, constraintFields, putAt, Put}
+use Rattle.scan.proofs.Formed.{counts, lengths}
+use Rattle.setfile.specs.Write.{fieldOf, kindBytes, readBody, outputBody, joined, literalBody, fieldsOf, writeOf, writeAnswer, bufferAfter, readFields, outputFields, constraintFields, putAt, Put}
 use Rattle.setfile.specs.declared.writer.Written.the-variants.{Wrote, BadSet, Short}
-use Rattle.setfile.proofs.BodyLaws.{literals-within}
 
 -- ---- bytes in a buffer
 
@@ -65,15 +69,64 @@ put-next buf at bytes i h g =
     ∙ put-put buf at x (b ∷ []) (omega arith)
     ∙ ap (putAt buf at) (sym (ap (λ (k : ℕ). take k bytes) (add-one i) ∙ take-suc bytes i 0 g))
 
--- three bytes stored one after the other, and then others behind them
-pub put-three : (buf : List ℕ) (at x y z : ℕ) (bytes : List ℕ) → at + 3 ≤ length buf
-    → putAt (set (set (set buf at x) (at + 1) y) (at + 2) z) (at + 3) bytes ≡ putAt buf at (x ∷ y ∷ z ∷ bytes)
-put-three buf at x y z bytes h =
+-- two bytes stored one after the other
+pub put-two : (buf : List ℕ) (at x y : ℕ) → at + 2 ≤ length buf → set (set buf at x) (at + 1) y ≡ putAt buf at (x ∷ y ∷ [])
+put-two buf at x y h =
+    let e1 : at + 1 ≡ suc at = omega arith in
+    rw e1 (sets-eq (x ∷ y ∷ []) buf at h ∙ append-assoc (take at buf) (x ∷ y ∷ []) (drop (at + 2) buf))
+
+-- three
+pub put-three : (buf : List ℕ) (at x y z : ℕ) → at + 3 ≤ length buf
+    → set (set (set buf at x) (at + 1) y) (at + 2) z ≡ putAt buf at (x ∷ y ∷ z ∷ [])
+put-three buf at x y z h =
     let e1 : at + 1 ≡ suc at = omega arith in
     let e2 : at + 2 ≡ suc (suc at) = omega arith in
-    let stored : set (set (set buf at x) (at + 1) y) (at + 2) z ≡ putAt buf at (x ∷ y ∷ z ∷ []) =
-    rw (e1, e2) (sets-eq (x ∷ y ∷ z ∷ []) buf at h ∙ append-assoc (take at buf) (x ∷ y ∷ z ∷ []) (drop (at + 3) buf)) in
-    ap (λ (l : List ℕ). putAt l (at + 3) bytes) stored ∙ put-put buf at (x ∷ y ∷ z ∷ []) bytes h
+    rw (e1, e2) (sets-eq (x ∷ y ∷ z ∷ []) buf at h ∙ append-assoc (take at buf) (x ∷ y ∷ z ∷ []) (drop (at + 3) buf))
+
+-- room behind what is in place
+pub next-room : (buf : List ℕ) (at : ℕ) (x y mid : List ℕ) (next : ℕ) → Put buf at x mid next → at + length (x ++ y) ≤ length buf → next + length y ≤ length mid
+next-room buf at x y mid next p h =
+    let lengths-add = length-append x y in
+    let first : at + length x ≤ length buf = omega (arith, lengths-add) in
+    omega (arith, lengths-add, p .1, ap length (p .0), put-kept buf at x first)
+
+-- room for a body behind its header
+pub body-room : (buf : List ℕ) (at tag len : ℕ) (body mid : List ℕ) (next : ℕ) → Put buf at (tag ∷ len / 256 ∷ len % 256 ∷ []) mid next
+    → at + length (fieldOf tag body) ≤ length buf → next + length body ≤ length mid
+body-room buf at tag len body mid next p h = next-room buf at (tag ∷ len / 256 ∷ len % 256 ∷ []) body mid next p h
+
+-- a body put behind its header
+pub field-put : (buf : List ℕ) (at tag len : ℕ) (body mid after : List ℕ) (next place : ℕ) → len ≡ length body → at + length (fieldOf tag body) ≤ length buf
+    → Put buf at (tag ∷ len / 256 ∷ len % 256 ∷ []) mid next → Put mid next body after place → Put buf at (fieldOf tag body) after place
+field-put buf at tag len body mid after next place e h p q =
+    subst (λ (n : ℕ). Put buf at (tag ∷ n / 256 ∷ n % 256 ∷ body) after place) e
+    (put-then buf at (tag ∷ len / 256 ∷ len % 256 ∷ []) body mid after next place (omega arith) p q)
+
+-- ---- names and kinds
+
+-- the bytes before the first zero are the name's
+pub name-ends : (name : List ℕ) (k : ℕ) → k ≤ length name → k ≡ first 8 (zeroAt name) → k ≡ length (nameBytes name)
+unfolding nameBytes nameLength
+name-ends name k h e = sym (length-take-le k name h) ∙ ap (λ (j : ℕ). length (take j name)) e
+
+pub name-short : (name : List ℕ) → length (nameBytes name) ≤ length name
+unfolding nameBytes
+name-short name = omega (arith, length-take (nameLength name) name)
+
+-- as many of the first bytes as the name has are its bytes
+pub name-taken : (name : List ℕ) (len : ℕ) → len ≡ length (nameBytes name) → take len name ≡ nameBytes name
+unfolding nameBytes
+name-taken name len e =
+    ap (take len) (sym (take-append-drop (nameLength name) name)) ∙ take-at (take (nameLength name) name) (drop (nameLength name) name) len (sym e)
+
+-- kind and index are two bytes
+pub kind-long : (k : Kind) → length (kindBytes k) ≡ 2
+kind-long Sensor = refl
+kind-long (PastOutput i) = refl
+kind-long (PastSensor i) = refl
+
+pub read-long : (p : ReadPoint) → length (readBody p) ≡ 2 + length (nameBytes (p .name))
+read-long p = omega (arith, length-append (kindBytes (p .kind)) (nameBytes (p .name)), kind-long (p .kind))
 
 -- ---- the fields of a list's elements
 
@@ -95,88 +148,86 @@ module _ {A : Type 0} (tag : ℕ) (body : A → List ℕ) where
       ∙ fields-append (take k xs) (getD xs k d ∷ [])
       ∙ ap (λ (l : List ℕ). fieldsOf tag body (take k xs) ++ l) (append-nil (fieldOf tag (body (getD xs k d))))
 
-  -- fewer fields are no longer
-  pub fields-fewer : (xs : List A) (k n : ℕ) → k ≤ n → length (fieldsOf tag body (take k xs)) ≤ length (fieldsOf tag body (take n xs))
-  fields-fewer xs k n h =
-      let e : fieldsOf tag body (take n xs) ≡ fieldsOf tag body (take k xs) ++ fieldsOf tag body (drop k (take n xs)) =
-      ap (fieldsOf tag body) (sym (take-append-drop k (take n xs)) ∙ ap (λ (l : List A). l ++ drop k (take n xs)) (take-take k n xs h))
-      ∙ fields-append (take k xs) (drop k (take n xs)) in
-      omega (arith, ap length e, length-append (fieldsOf tag body (take k xs)) (fieldsOf tag body (drop k (take n xs))))
+-- ---- loops that put one part behind the other
 
-  -- one field more is three bytes and its body longer
-  pub field-longer : (xs : List A) (k : ℕ) (d : A) → k < length xs
-      → length (fieldsOf tag body (take (k + 1) xs)) ≡ length (fieldsOf tag body (take k xs)) + 3 + length (body (getD xs k d))
-  field-longer xs k d h =
-      let e = length-append (fieldsOf tag body (take k xs)) (fieldOf tag (body (getD xs k d))) in
-      ap length (fields-more xs k d h) ∙ omega (arith, e)
+-- `whole k` is the first k parts, `more k` the part behind them
+pub record Grows (whole more : ℕ → List ℕ) (n : ℕ) : Type 0 where
+  pub none : whole 0 ≡ []
+  pub one : (k : ℕ) → k < n → whole (k + 1) ≡ whole k ++ more k
 
--- ---- loops over the elements
+pub fields-grow : {A : Type 0} (tag : ℕ) (body : A → List ℕ) (xs : List A) (n : ℕ) (d : A) → n ≤ length xs
+    → Grows (λ k. fieldsOf tag body (take k xs)) (λ k. fieldOf tag (body (getD xs k d))) n
+unfolding fieldsOf
+fields-grow tag body xs n d few = record { none = refl; one = λ k h. fields-more tag body xs k d (omega arith) }
 
--- the invariant of a loop that puts fields: those of the first k elements are in place
-abbrev pub Puts : {A : Type 0} → ℕ → (A → List ℕ) → List A → ℕ → List ℕ → ℕ → List ℕ → ℕ → ℕ → Type 0
-Puts tag body xs n buf at after next k = (k ≤ n) × Put buf at (fieldsOf tag body (take k xs)) after next
+pub joined-grow : (f : ℕ → List ℕ) (n : ℕ) → Grows (λ k. joined k f) f n
+unfolding joined
+joined-grow f n = record { none = refl; one = λ k h. ap (λ (j : ℕ). joined j f) (add-one k) }
 
--- the invariant of a loop that adds up lengths: the length of the first k elements' fields
-abbrev pub Counted : {A : Type 0} → ℕ → (A → List ℕ) → List A → ℕ → ℕ → ℕ → Type 0
-Counted tag body xs n len k = (k ≤ n) × (len ≡ length (fieldsOf tag body (take k xs)))
+-- the invariant of a loop that puts parts: the first k are in place
+abbrev pub Puts : (ℕ → List ℕ) → ℕ → List ℕ → ℕ → List ℕ → ℕ → ℕ → Type 0
+Puts whole n buf at after next k = (k ≤ n) × Put buf at (whole k) after next
 
-module _ {A : Type 0} (tag : ℕ) (body : A → List ℕ) (xs : List A) (n : ℕ) (few : n ≤ length xs) where
-  pub counted-none : Counted tag body xs n 0 0
-  unfolding fieldsOf
-  counted-none = (omega arith, refl)
+-- the invariant of a loop that adds up lengths: that of the first k parts
+abbrev pub Counted : (ℕ → List ℕ) → ℕ → ℕ → ℕ → Type 0
+Counted whole n len k = (k ≤ n) × (len ≡ length (whole k))
 
-  pub counted-one : (len k : ℕ) (d : A) (bytes : List ℕ) (size : ℕ) → Counted tag body xs n len k → k < n → bytes ≡ body (getD xs k d) → length bytes ≡ size
-      → Counted tag body xs n (len + 3 + size) (k + 1)
-  counted-one len k d bytes size i h e l = (omega arith, omega (arith, i .1, l, ap length e, field-longer tag body xs k d (omega arith)))
+module _ {whole more : ℕ → List ℕ} {n : ℕ} (g : Grows whole more n) where
+  longer : (k : ℕ) → k < n → length (whole (k + 1)) ≡ length (whole k) + length (more k)
+  longer k h = ap length (g .one k h) ∙ length-append (whole k) (more k)
 
-  pub counted-all : (len k : ℕ) → Counted tag body xs n len k → n ≤ k → len ≡ length (fieldsOf tag body (take n xs))
-  counted-all len k i h = let e : k ≡ n = omega arith in i .1 ∙ ap (λ (j : ℕ). length (fieldsOf tag body (take j xs))) e
+  fewer-by : (k d : ℕ) → k + d ≤ n → length (whole k) ≤ length (whole (k + d))
+  fewer-by k zero h = let e = ap (λ (j : ℕ). length (whole j)) (add-zero k) in omega (arith, e)
+  fewer-by k (suc d) h =
+      let step : k + suc d ≡ k + d + 1 = omega arith in
+      omega (arith, ap (λ (j : ℕ). length (whole j)) step, fewer-by k d (omega arith), longer (k + d) (omega arith))
 
-  module _ (buf : List ℕ) (at : ℕ) (room : at + length (fieldsOf tag body (take n xs)) ≤ length buf) where
-    pub puts-none : Puts tag body xs n buf at buf at 0
-    unfolding fieldsOf
-    puts-none = (omega arith, (put-nothing buf at, sym (add-zero at)))
+  -- fewer parts are no longer
+  fewer : (k : ℕ) → k ≤ n → length (whole k) ≤ length (whole n)
+  fewer k h = let e : k + (n - k) ≡ n = omega arith in omega (arith, ap (λ (j : ℕ). length (whole j)) e, fewer-by k (n - k) (omega arith))
 
-    pub puts-kept : (after : List ℕ) (next k : ℕ) → Puts tag body xs n buf at after next k → length after ≡ length buf
-    puts-kept after next k i =
-        ap length (i .1 .0) ∙ put-kept buf at (fieldsOf tag body (take k xs)) (omega (arith, fields-fewer tag body xs k n (i .0)))
+  pub counted-none : Counted whole n 0 0
+  counted-none = (omega arith, sym (ap length (g .none)))
 
-    -- there is room for the next field
-    pub puts-room : (after : List ℕ) (next k : ℕ) (d : A) (bytes : List ℕ) → Puts tag body xs n buf at after next k → k < n → bytes ≡ body (getD xs k d)
-        → next + length (fieldOf tag bytes) ≤ length after
-    puts-room after next k d bytes i h e =
-        omega (arith, i .1 .1, ap length e, puts-kept after next k i, field-longer tag body xs k d (omega arith), fields-fewer tag body xs (k + 1) n (omega arith))
+  pub counted-one : (len k sum : ℕ) → Counted whole n len k → k < n → sum ≡ len + length (more k) → Counted whole n sum (k + 1)
+  counted-one len k sum i h e = (omega arith, omega (arith, i .1, e, longer k h))
 
-    pub puts-one : (after : List ℕ) (next k : ℕ) (d : A) (bytes then : List ℕ) (place : ℕ) → Puts tag body xs n buf at after next k → k < n
-        → bytes ≡ body (getD xs k d) → Put after next (fieldOf tag bytes) then place → Puts tag body xs n buf at then place (k + 1)
-    puts-one after next k d bytes then place i h e p =
-        let fields : fieldsOf tag body (take k xs) ++ fieldOf tag bytes ≡ fieldsOf tag body (take (k + 1) xs) =
-        ap (λ (l : List ℕ). fieldsOf tag body (take k xs) ++ fieldOf tag l) e ∙ sym (fields-more tag body xs k d (omega arith)) in
-        let room-yet : at + length (fieldsOf tag body (take k xs)) ≤ length buf = omega (arith, fields-fewer tag body xs k n (i .0)) in (
-          omega arith,
-          subst (λ (l : List ℕ). Put buf at l then place) fields
-              (put-then buf at (fieldsOf tag body (take k xs)) (fieldOf tag bytes) after then next place room-yet (i .1) p),
-        )
+  pub counted-all : (len k : ℕ) → Counted whole n len k → n ≤ k → len ≡ length (whole n)
+  counted-all len k i h = let e : k ≡ n = omega arith in i .1 ∙ ap (λ (j : ℕ). length (whole j)) e
 
-    pub puts-all : (after : List ℕ) (next k : ℕ) → Puts tag body xs n buf at after next k → n ≤ k → Put buf at (fieldsOf tag body (take n xs)) after next
-    puts-all after next k i h =
-        let e : k ≡ n = omega arith in subst (λ (j : ℕ). Put buf at (fieldsOf tag body (take j xs)) after next) e (i .1)
+  module _ (buf : List ℕ) (at : ℕ) (room : at + length (whole n) ≤ length buf) where
+    pub puts-none : Puts whole n buf at buf at 0
+    puts-none = (omega arith, subst (λ (l : List ℕ). Put buf at l buf at) (sym (g .none)) (put-nothing buf at, sym (add-zero at)))
+
+    pub puts-kept : (after : List ℕ) (next k : ℕ) → Puts whole n buf at after next k → length after ≡ length buf
+    puts-kept after next k i = ap length (i .1 .0) ∙ put-kept buf at (whole k) (omega (arith, fewer k (i .0)))
+
+    -- there is room for the next part
+    pub puts-room : (after : List ℕ) (next k : ℕ) → Puts whole n buf at after next k → k < n → next + length (more k) ≤ length after
+    puts-room after next k i h = omega (arith, i .1 .1, puts-kept after next k i, longer k h, fewer (k + 1) (omega arith))
+
+    pub puts-one : (after : List ℕ) (next k : ℕ) (then : List ℕ) (place : ℕ) → Puts whole n buf at after next k → k < n
+        → Put after next (more k) then place → Puts whole n buf at then place (k + 1)
+    puts-one after next k then place i h p = (
+      omega arith,
+      subst (λ (l : List ℕ). Put buf at l then place) (sym (g .one k h))
+          (put-then buf at (whole k) (more k) after then next place (omega (arith, fewer k (i .0))) (i .1) p),
+    )
+
+    pub puts-all : (after : List ℕ) (next k : ℕ) → Puts whole n buf at after next k → n ≤ k → Put buf at (whole n) after next
+    puts-all after next k i h = let e : k ≡ n = omega arith in subst (λ (j : ℕ). Put buf at (whole j) after next) e (i .1)
 
 -- ---- the parts of a well-formed set
 
 module _ (s : Set) (ok : wellFormed s ≡ true) where
-  pub few-reads : s .r ≤ length (s .reads)
-  few-reads = omega (arith, counts s ok .r-le, lengths s ok .0)
+  pub reads-grow : Grows (λ k. fieldsOf 0x02 readBody (take k (s .reads))) (λ k. fieldOf 0x02 (readBody (getD (s .reads) k noRead))) (s .r)
+  reads-grow = fields-grow 0x02 readBody (s .reads) (s .r) noRead (omega (arith, counts s ok .r-le, lengths s ok .0))
 
-  pub few-outputs : s .n ≤ length (s .outputs)
-  few-outputs = omega (arith, counts s ok .n-le, lengths s ok .1)
+  pub outputs-grow : Grows (λ k. fieldsOf 0x03 outputBody (take k (s .outputs))) (λ k. fieldOf 0x03 (outputBody (getD (s .outputs) k noOutput))) (s .n)
+  outputs-grow = fields-grow 0x03 outputBody (s .outputs) (s .n) noOutput (omega (arith, counts s ok .n-le, lengths s ok .1))
 
-  pub few-constraints : s .m ≤ length (s .constraints)
-  few-constraints = omega (arith, counts s ok .m-le, lengths s ok .2)
-
-  -- the literals of a constraint in use are its body
-  pub constraint-body : (i : ℕ) → i < s .m → joined (s .r) (readLiteral (constraint s i)) ++ joined (s .n) (outputLiteral (constraint s i)) ≡ literalBody (constraint s i)
-  constraint-body i h = literals-within (s .r) (s .n) (constraint s i) (counts s ok .r-le) (counts s ok .n-le) (masks s ok i h)
+  pub constraints-grow : Grows (λ k. fieldsOf 0x04 literalBody (take k (s .constraints))) (λ k. fieldOf 0x04 (literalBody (getD (s .constraints) k noConstraint))) (s .m)
+  constraints-grow = fields-grow 0x04 literalBody (s .constraints) (s .m) noConstraint (omega (arith, counts s ok .m-le, lengths s ok .2))
 
 -- the file's length, part by part
 pub file-long : (s : Set) → length (writeOf s) ≡ 8 + length (readFields s) + length (outputFields s) + length (constraintFields s)
@@ -222,13 +273,6 @@ module _ (s : Set) (room : ℕ) (fits : 0 + length (writeOf s) ≤ room) where
 
   pub room-counts : 0 + length (countsPut s) ≤ room
   room-counts = front-room (countsPut s) (readFields s) room room-reads
-
--- room behind what is in place
-pub next-room : (buf x y mid : List ℕ) (next : ℕ) → Put buf 0 x mid next → 0 + length (x ++ y) ≤ length buf → next + length y ≤ length mid
-next-room buf x y mid next p h =
-    let lengths-add = length-append x y in
-    let first : 0 + length x ≤ length buf = omega (arith, lengths-add) in
-    omega (arith, lengths-add, p .1, ap length (p .0), put-kept buf 0 x first)
 
 -- ---- the answer
 

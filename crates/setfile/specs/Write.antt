@@ -16,7 +16,6 @@ use Rattle.scan.specs.declared.set.Set.{Set}
 use Rattle.scan.specs.Set.{mostReads, mostOutputs, rank}
 use Rattle.scan.specs.Names.{nameBytes}
 use Rattle.scan.specs.Shape.{wellFormed}
-use Rattle.setfile.specs.declared.body.Body.{Body}
 use Rattle.setfile.specs.declared.writer.Written.{Written}
 use Rattle.setfile.specs.declared.writer.Written.the-variants.{Wrote, BadSet, Short}
 
@@ -88,7 +87,7 @@ bufferAfter s buf =
     let file = writeOf s in
     cond (wellFormed s && leb (length file) (length buf)) (file ++ drop (length file) buf) buf
 
--- ---- the code's way: parts of the file, a body under construction, and a buffer with bytes put into it
+-- ---- the code's way: parts of the file, and a buffer with bytes put into it
 
 -- the fields of a set's read points
 abbrev pub readFields : Set → List ℕ
@@ -101,10 +100,6 @@ outputFields s = fieldsOf 0x03 outputBody (take (s .n) (s .outputs))
 -- the fields of its constraints
 abbrev pub constraintFields : Set → List ℕ
 constraintFields s = fieldsOf 0x04 literalBody (take (s .m) (s .constraints))
-
--- the bytes of a body
-abbrev pub bodyBytes : Body → List ℕ
-bodyBytes b = take (b .len) (b .bytes)
 
 -- the buffer with bytes put at a place
 abbrev pub putAt : List ℕ → ℕ → List ℕ → List ℕ

@@ -5,7 +5,7 @@ mod reader; // a file and a place in it
 mod point; // the bodies of read points and outputs
 mod literal; // the body of a constraint
 mod loader; // the whole file, front to back
-mod body; // the bodies that are written
+mod field; // one field into a lent buffer
 mod writer; // the whole file into a lent buffer
 
 pub use loader::LoadAnswer;

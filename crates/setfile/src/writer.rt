@@ -1,15 +1,12 @@
 // Writing: the length of the file is counted first, and then each field is put into the lent buffer.
-use super::body::Body;
-use super::body::counts_body;
-use super::body::empty_body;
-use super::body::literal_body;
-use super::body::output_body;
-use super::body::read_body;
-use super::numbers::TAG_CONSTRAINT;
-use super::numbers::TAG_COUNTS;
+use super::field::literals_length;
+use super::field::name_length;
+use super::field::put_constraint;
+use super::field::put_counts;
+use super::field::put_header;
+use super::field::put_output;
+use super::field::put_read;
 use super::numbers::TAG_END;
-use super::numbers::TAG_OUTPUT;
-use super::numbers::TAG_READ;
 use scan::Set;
 use scan::well_formed;
 ghost use mathlib.Core.Path.{_≡_};
@@ -17,7 +14,7 @@ ghost use mathlib.Core.Bool.{true};
 ghost use Prim.Native.Nat.{_+_, _≤_};
 ghost use lib.ListN.{length};
 ghost use Rattle.scan.specs.Shape.{wellFormed};
-ghost use Rattle.setfile.specs.Write.{fieldOf, writeOf, writeAnswer, bufferAfter, readFields, outputFields, constraintFields, bodyBytes, putAt, Put};
+ghost use Rattle.setfile.specs.Write.{writeOf, writeAnswer, bufferAfter, readFields, outputFields, constraintFields, putAt, Put};
 
 // The length of the file; or that the set is not well formed; or the length needed, where the buffer is shorter.
 pub enum Written {
@@ -59,8 +56,8 @@ fn reads_length(set: Set) -> usize
     let mut k: usize = 0;
     while k < r {
         let p = set.reads[k];
-        let b = read_body(p);
-        len = len + 3 + b.len;
+        let name = p.name;
+        len = len + 5 + name_length(name);
         k = k + 1;
     }
     len
@@ -75,8 +72,8 @@ fn outputs_length(set: Set) -> usize
     let mut j: usize = 0;
     while j < n {
         let p = set.outputs[j];
-        let b = output_body(p);
-        len = len + 3 + b.len;
+        let name = p.name;
+        len = len + 3 + name_length(name);
         j = j + 1;
     }
     len
@@ -84,46 +81,17 @@ fn outputs_length(set: Set) -> usize
 
 fn constraints_length(set: Set) -> usize
     requires { ⌜ wellFormed set ≡ true ⌝ }
-    ensures { λ x. ⌜ (x ≡ length (constraintFields set)) × (x ≤ 3264) ⌝ }
+    ensures { λ x. ⌜ (x ≡ length (constraintFields set)) × (x ≤ 3776) ⌝ }
 {
-    let r = set.r;
-    let n = set.n;
     let m = set.m;
     let mut len: usize = 0;
     let mut i: usize = 0;
     while i < m {
         let c = set.constraints[i];
-        let b = literal_body(c, r, n);
-        len = len + 3 + b.len;
+        len = len + 3 + literals_length(c);
         i = i + 1;
     }
     len
-}
-
-// The body's bytes, from `at` on.
-fn put_bytes(buf: &mut [u8], at: usize, body: Body)
-    requires { ⌜ (body .len ≤ 48) × (at + body .len ≤ length (now buf)) ⌝ }
-    ensures { λ _. ⌜ now (buf .exit) ≡ putAt (now (buf .entry)) at (bodyBytes body) ⌝ }
-{
-    let len = body.len;
-    let mut i: usize = 0;
-    while i < len {
-        buf[at + i] = body.bytes[i];
-        i = i + 1;
-    }
-}
-
-// The field, from `at` on; the place behind it.
-fn put_field(buf: &mut [u8], at: usize, tag: u8, body: Body) -> usize
-    requires { ⌜ (body .len ≤ 48) × (at + length (fieldOf tag (bodyBytes body)) ≤ length (now buf)) ⌝ }
-    ensures { λ r. ⌜ Put (now (buf .entry)) at (fieldOf tag (bodyBytes body)) (now (buf .exit)) r ⌝ }
-{
-    let len = body.len;
-    buf[at] = tag;
-    buf[at + 1] = (len / 256 % 256) as u8;
-    buf[at + 2] = (len % 256) as u8;
-    put_bytes(&mut *buf, at + 3, body);
-    at + 3 + len
 }
 
 // The fields of the read points, from `at` on; the place behind them.
@@ -136,7 +104,7 @@ fn put_reads(buf: &mut [u8], at: usize, set: Set) -> usize
     let mut k: usize = 0;
     while k < r {
         let p = set.reads[k];
-        next = put_field(&mut *buf, next, TAG_READ, read_body(p));
+        next = put_read(&mut *buf, next, p);
         k = k + 1;
     }
     next
@@ -152,7 +120,7 @@ fn put_outputs(buf: &mut [u8], at: usize, set: Set) -> usize
     let mut j: usize = 0;
     while j < n {
         let p = set.outputs[j];
-        next = put_field(&mut *buf, next, TAG_OUTPUT, output_body(p));
+        next = put_output(&mut *buf, next, p);
         j = j + 1;
     }
     next
@@ -170,7 +138,7 @@ fn put_constraints(buf: &mut [u8], at: usize, set: Set) -> usize
     let mut i: usize = 0;
     while i < m {
         let c = set.constraints[i];
-        next = put_field(&mut *buf, next, TAG_CONSTRAINT, literal_body(c, r, n));
+        next = put_constraint(&mut *buf, next, c, r, n);
         i = i + 1;
     }
     next
@@ -181,10 +149,9 @@ fn put_file(buf: &mut [u8], set: Set)
     requires { ⌜ (wellFormed set ≡ true) × (length (writeOf set) ≤ length (now buf)) ⌝ }
     ensures { λ _. ⌜ now (buf .exit) ≡ putAt (now (buf .entry)) 0 (writeOf set) ⌝ }
 {
-    let counts = counts_body(set.r, set.n);
-    let reads = put_field(&mut *buf, 0, TAG_COUNTS, counts);
+    let reads = put_counts(&mut *buf, 0, set.r, set.n);
     let outputs = put_reads(&mut *buf, reads, set);
     let constraints = put_outputs(&mut *buf, outputs, set);
     let end = put_constraints(&mut *buf, constraints, set);
-    put_field(&mut *buf, end, TAG_END, empty_body());
+    put_header(&mut *buf, end, TAG_END, 0);
 }

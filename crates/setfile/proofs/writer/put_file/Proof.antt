@@ -1,6 +1,6 @@
 -- `setfile::writer::put_file` meets its contract: one part behind the other. Assumes nothing.
 use borrow.Author.Needs.{needs}
-use mathlib.Core.Path.{_∙_, ap, subst}
+use mathlib.Core.Path.{_∙_, ap}
 use mathlib.Core.List.{List, []}
 use Prim.Native.Nat.{ℕ, _+_, _≤_}
 use native.Mathlib.Omega.{arith}
@@ -18,8 +18,8 @@ fits c = omega (arith, c .pre .1)
 
 -- ---- the entry, from the place after each part
 
-abbrev start-1 : tie.After-put-field → tie.Start
-start-1 c = c .before .before .before .before
+abbrev start-1 : tie.After-put-counts → tie.Start
+start-1 c = c .before .before .before
 
 abbrev start-2 : tie.After-put-reads → tie.Start
 start-2 c = start-1 (c .before .before .before .before)
@@ -36,11 +36,8 @@ start-4 c = start-3 (c .before .before .before .before)
 abbrev Done : tie.Start → List ℕ → List ℕ → ℕ → Type 0
 Done s bytes after next = Put (now (s .args .buf)) 0 bytes after next
 
-done-1 : (c : tie.After-put-field) → Done (start-1 c) (countsPut (start-1 c .args .set)) (c .put-field .last .0) (c .put-field .result)
-done-1 c =
-    subst (λ (l : List ℕ). Done (start-1 c) (fieldOf 0x01 l) (c .put-field .last .0) (c .put-field .result))
-    (c .before .before .counts-body .ensures .1)
-    (c .put-field .ensures)
+done-1 : (c : tie.After-put-counts) → Done (start-1 c) (countsPut (start-1 c .args .set)) (c .put-counts .last .0) (c .put-counts .result)
+done-1 c = c .put-counts .ensures
 
 done-2 : (c : tie.After-put-reads) → Done (start-2 c) (readsPut (start-2 c .args .set)) (c .put-reads .last .0) (c .put-reads .result)
 done-2 c =
@@ -65,13 +62,12 @@ done-4 c =
 
 -- ---- the needs
 
-counts-body-requires : tie.Need-counts-body-requires
-counts-body-requires c κs = let s = c .before in let k = counts (s .args .set) (s .pre .0) in omega (arith, k .r-le, k .n-le)
-
-put-field-requires : tie.Need-put-field-requires
-put-field-requires c κs =
-    let s = c .before .before .before in
-    omega (arith, room-counts (s .args .set) (length (now (s .args .buf))) (fits s), ap length (c .before .counts-body .ensures .1))
+put-counts-requires : tie.Need-put-counts-requires
+put-counts-requires c κs =
+    let s = c .before .before in
+    let a = s .args in
+    let k = counts (a .set) (s .pre .0) in
+    omega (arith, k .r-le, k .n-le, room-counts (a .set) (length (now (a .buf))) (fits s))
 
 put-reads-requires : tie.Need-put-reads-requires
 put-reads-requires c κs =
@@ -80,7 +76,7 @@ put-reads-requires c κs =
     let a = s .args in
     let buf = now (a .buf) in (
       s .pre .0,
-      next-room buf (countsPut (a .set)) (readFields (a .set)) (p .put-field .last .0) (p .put-field .result) (done-1 p) (room-reads (a .set) (length buf) (fits s)),
+      next-room buf 0 (countsPut (a .set)) (readFields (a .set)) (p .put-counts .last .0) (p .put-counts .result) (done-1 p) (room-reads (a .set) (length buf) (fits s)),
     )
 
 put-outputs-requires : tie.Need-put-outputs-requires
@@ -90,7 +86,7 @@ put-outputs-requires c κs =
     let a = s .args in
     let buf = now (a .buf) in (
       s .pre .0,
-      next-room buf (readsPut (a .set)) (outputFields (a .set)) (p .put-reads .last .0) (p .put-reads .result) (done-2 p) (room-outputs (a .set) (length buf) (fits s)),
+      next-room buf 0 (readsPut (a .set)) (outputFields (a .set)) (p .put-reads .last .0) (p .put-reads .result) (done-2 p) (room-outputs (a .set) (length buf) (fits s)),
     )
 
 put-constraints-requires : tie.Need-put-constraints-requires
@@ -100,50 +96,39 @@ put-constraints-requires c κs =
     let a = s .args in
     let buf = now (a .buf) in (
       s .pre .0,
-      next-room buf (outputsPut (a .set)) (constraintFields (a .set)) (p .put-outputs .last .0) (p .put-outputs .result) (done-3 p) (room-constraints (a .set) (length buf) (fits s)),
+      next-room buf 0 (outputsPut (a .set)) (constraintFields (a .set)) (p .put-outputs .last .0) (p .put-outputs .result) (done-3 p) (room-constraints (a .set) (length buf) (fits s)),
     )
 
-empty-body-requires : tie.Need-empty-body-requires
-empty-body-requires c κs = search needs
-
-put-field-requires-2 : tie.Need-put-field-requires-2
-put-field-requires-2 c κs =
-    let p = c .before .before .before .before in
+put-header-requires : tie.Need-put-header-requires
+put-header-requires c κs =
+    let p = c .before .before .before in
     let s = start-4 p in
     let a = s .args in
     let buf = now (a .buf) in
     let end = p .put-constraints in
-    let room = next-room buf (constraintsPut (a .set)) (fieldOf 0x05 []) (end .last .0) (end .result) (done-4 p) (room-end (a .set) (length buf) (fits s)) in
-    (omega arith, omega (arith, room, ap length (c .empty-body .ensures .1)))
+    omega (arith, next-room buf 0 (constraintsPut (a .set)) (fieldOf 0x05 []) (end .last .0) (end .result) (done-4 p) (room-end (a .set) (length buf) (fits s)))
 
 same-length : tie.Need-same-length
 same-length c = search needs
 
 returns : tie.Need-returns
 returns c =
-    let p = c .before .before .before .before .before .before .before in
+    let e = c .before .before in
+    let p = e .before .before .before .before in
     let s = start-4 p in
     let a = s .args in
     let buf = now (a .buf) in
-    let end = p .put-constraints in
-    let call = c .before .before .put-field2 in
-    let last : Put (end .last .0) (end .result) (fieldOf 0x05 []) (call .last .0) (call .result) =
-    subst (λ (l : List ℕ). Put (end .last .0) (end .result) (fieldOf 0x05 l) (call .last .0) (call .result))
-    (c .before .before .before .empty-body .ensures .1)
-    (call .ensures) in
-    put-then buf 0 (constraintsPut (a .set)) (fieldOf 0x05 []) _ _ _ _ (room-constraints (a .set) (length buf) (fits s)) (done-4 p) last .0
+    put-then buf 0 (constraintsPut (a .set)) (fieldOf 0x05 []) _ _ _ _ (room-constraints (a .set) (length buf) (fits s)) (done-4 p) (e .put-header .ensures) .0
     ∙ ap (putAt buf 0) (file-ends (a .set))
 
 pub put-file-spec : {M : Type 1} → statement M
 put-file-spec =
     tie.close
     (tie.spec
-    counts-body-requires
-    put-field-requires
+    put-counts-requires
     put-reads-requires
     put-outputs-requires
     put-constraints-requires
-    empty-body-requires
-    put-field-requires-2
+    put-header-requires
     same-length
     returns)

@@ -1,62 +1,24 @@
--- What the proofs of `body` share: bytes put behind a body's bytes, a name's end, and the literals of a constraint.
+-- The literals of a constraint as bytes: plain, negated or none, those of the points in use, and how many bytes they are.
 -- Assumes nothing.
 use mathlib.Core.Path.{_≡_, refl, sym, ap, ap₂, _∙_}
-use mathlib.Core.Bool.{Bool, true, false, cond}
-use mathlib.Core.List.{List, [], _∷_, _++_, append-assoc, append-nil}
-use Prim.Native.Nat.{ℕ, zero, suc, _+_, _-_, _≤_, _<_}
-use native.Mathlib.Numerals.{add-one}
-use native.Mathlib.Nat.{zero-add}
+use mathlib.Core.Bool.{Bool, true, false, cond, _||_}
+use mathlib.Core.List.{List, [], _∷_, _++_, append-nil}
+use Prim.Native.Nat.{ℕ, zero, suc, _+_, _-_, _*_, _^_, _≤_, _<_}
+use native.Mathlib.Nat.{zero-add, lt-of-lt-of-le}
 use native.Mathlib.Omega.{arith}
-use lib.ListN.{length, getD, take, set, length-set}
-use lib.Seq.{take-suc, take-suc-set}
-use lib.Bits.{bitOr, or-shifted}
-use Rattle.words.specs.Word.{bit}
-use Rattle.words.specs.Loop.{first}
+use lib.ListN.{length, length-append}
+use lib.Pow.{pow-mono}
+use lib.Bits.{bitOr, or-lt, or-shifted}
+use lib.Count.{ones}
+use Rattle.words.specs.Word.{bit, popcount}
+use Rattle.words.specs.Loop.{count}
 use Rattle.words.proofs.Bools.{clash}
-use Rattle.words.proofs.Bits.{bit-above}
-use Rattle.scan.specs.declared.set.Kind.{Kind}
+use Rattle.words.proofs.Bits.{bit-or, bit-above}
+use Rattle.words.proofs.Counts.{ones-popcount, ones-count, count-beyond, count-le}
 use Rattle.scan.specs.declared.set.Constraint.{Constraint}
-use Rattle.scan.specs.Set.{rank}
-use Rattle.scan.specs.Names.{zeroAt, nameLength, nameBytes}
-use Rattle.scan.proofs.Formed.{Masks}
-use Rattle.setfile.specs.Write.{kindBytes, readLiteral, outputLiteral, joined, literalBody}
-
--- ---- bytes behind others
-
-pub byte-more : (bytes : List ℕ) (len b : ℕ) → len < length bytes → take (len + 1) (set bytes len b) ≡ take len bytes ++ (b ∷ [])
-byte-more bytes len b h = ap (λ (k : ℕ). take k (set bytes len b)) (add-one len) ∙ take-suc-set bytes len b h
-
-pub two-more : (bytes : List ℕ) (len a b : ℕ) → len + 2 ≤ length bytes
-    → take (len + 2) (set (set bytes len a) (len + 1) b) ≡ take len bytes ++ (a ∷ b ∷ [])
-two-more bytes len a b h =
-    let e : len + 2 ≡ len + 1 + 1 = omega arith in
-    ap (λ (k : ℕ). take k (set (set bytes len a) (len + 1) b)) e
-    ∙ byte-more (set bytes len a) (len + 1) b (omega (arith, length-set bytes len a))
-    ∙ ap (λ (l : List ℕ). l ++ (b ∷ [])) (byte-more bytes len a (omega arith))
-    ∙ append-assoc (take len bytes) (a ∷ []) (b ∷ [])
-
--- ---- names
-
--- a name's byte behind those before it
-pub name-more : (front bytes name : List ℕ) (len k : ℕ) → len < length bytes → k < length name → take len bytes ≡ front ++ take k name
-    → take (len + 1) (set bytes len (getD name k 0)) ≡ front ++ take (k + 1) name
-name-more front bytes name len k h g e =
-    byte-more bytes len (getD name k 0) h
-    ∙ ap (λ (l : List ℕ). l ++ (getD name k 0 ∷ [])) e
-    ∙ append-assoc front (take k name) (getD name k 0 ∷ [])
-    ∙ ap (λ (l : List ℕ). front ++ l) (sym (ap (λ (j : ℕ). take j name) (add-one k) ∙ take-suc name k 0 g))
-
--- the bytes before the first zero are the name's
-pub name-ends : (front bytes name : List ℕ) (len k : ℕ) → take len bytes ≡ front ++ take k name → k ≡ first 8 (zeroAt name)
-    → take len bytes ≡ front ++ nameBytes name
-unfolding nameBytes nameLength
-name-ends front bytes name len k e h = e ∙ ap (λ (j : ℕ). front ++ take j name) h
-
--- a read point's body: nothing, then kind and index, then the name
-pub read-made : (kind : Kind) (name none two made : List ℕ) (a b : ℕ) → none ≡ [] → two ≡ none ++ (a ∷ b ∷ []) → made ≡ two ++ nameBytes name
-    → a ∷ b ∷ [] ≡ kindBytes kind → made ≡ kindBytes kind ++ nameBytes name
-read-made kind name none two made a b en et em ek =
-    em ∙ ap (λ (l : List ℕ). l ++ nameBytes name) (et ∙ ap (λ (l : List ℕ). l ++ (a ∷ b ∷ [])) en ∙ ek)
+use Rattle.scan.specs.Set.{rank, outs}
+use Rattle.scan.proofs.Formed.{Masks, outs-lt}
+use Rattle.setfile.specs.Write.{readLiteral, outputLiteral, joined, literalBody}
 
 -- ---- literals: plain, negated or none
 
@@ -105,16 +67,6 @@ module _ (c : Constraint) (k : ℕ) where
   unfolding outputLiteral
   output-none = literal-none (bit k (c .«out_plain»)) (bit k (c .«out_negated»)) ((0x40 + k) ∷ rank c k ∷ []) ((0xC0 + k) ∷ rank c k ∷ [])
 
-pub joined-start : (front : List ℕ) (f : ℕ → List ℕ) → front ≡ front ++ joined 0 f
-unfolding joined
-joined-start front f = sym (append-nil front)
-
--- the literals of point k behind those of the points before it
-pub joined-more : (front : List ℕ) (f : ℕ → List ℕ) (k : ℕ) (x y : List ℕ) → x ≡ front ++ joined k f → y ≡ x ++ f k → y ≡ front ++ joined (k + 1) f
-unfolding joined
-joined-more front f k x y e h =
-    h ∙ ap (λ (l : List ℕ). l ++ f k) e ∙ append-assoc front (joined k f) (f k) ∙ ap (λ (j : ℕ). front ++ joined j f) (sym (add-one k))
-
 -- what gives nothing from r on
 pub joined-short : (f : ℕ → List ℕ) (r more : ℕ) → ((k : ℕ) → r ≤ k → f k ≡ []) → joined (more + r) f ≡ joined r f
 unfolding joined
@@ -145,3 +97,61 @@ module _ (r n : ℕ) (c : Constraint) (few : r ≤ 16) (fewer : n ≤ 12) (ms : 
       sym (ap₂ _++_
       (ap (λ (j : ℕ). joined j (readLiteral c)) (sym reads) ∙ joined-short (readLiteral c) r (16 - r) no-read)
       (ap (λ (j : ℕ). joined j (outputLiteral c)) (sym outputs) ∙ joined-short (outputLiteral c) n (12 - n) no-output))
+
+  -- its masks have no bits beyond the most points
+  pub masks-few : (bitOr (c .«read_plain») (c .«read_negated») < 2 ^ 16) × (outs c < 2 ^ 12)
+  masks-few = (
+    lt-of-lt-of-le (or-lt r (c .«read_plain») (c .«read_negated») (ms .read-plain) (ms .read-negated)) (pow-mono {i = r} {j = 16} few),
+    lt-of-lt-of-le (outs-lt r n c ms) (pow-mono {i = n} {j = 12} fewer),
+  )
+
+-- ---- how many bytes they are
+
+-- two for a point that is plain or negated, and none for another
+literal-long : (p n : Bool) (a b x y : ℕ) → length (cond p (a ∷ b ∷ []) (cond n (x ∷ y ∷ []) [])) ≡ 2 * cond (p || n) 1 0
+literal-long true n a b x y = refl
+literal-long false true a b x y = refl
+literal-long false false a b x y = refl
+
+joined-long : (f : ℕ → List ℕ) (p : ℕ → Bool) → ((k : ℕ) → length (f k) ≡ 2 * cond (p k) 1 0) → (n : ℕ) → length (joined n f) ≡ 2 * count n p
+unfolding joined count
+joined-long f p h zero = refl
+joined-long f p h (suc n) =
+    let e : length (joined n f) ≡ 2 * count n p = joined-long f p h n in
+    omega (arith, length-append (joined n f) (f n), e, h n)
+
+-- the count of ones of a word of n bits
+ones-below : (n w : ℕ) → n ≤ 16 → w < 2 ^ n → ones w ≡ count n (λ k. bit k w)
+unfolding popcount
+ones-below n w few h =
+    let width : 16 ≡ n + (16 - n) = omega arith in
+    ones-popcount w (lt-of-lt-of-le h (pow-mono {i = n} {j = 16} few))
+    ∙ ones-count 16 w
+    ∙ ap (λ (x : ℕ). count x (λ k. bit k w)) width
+    ∙ count-beyond n (16 - n) (λ k. bit k w) (λ k l. bit-above n k w h l)
+
+module _ (c : Constraint) where
+  read-long : (k : ℕ) → length (readLiteral c k) ≡ 2 * cond (bit k (bitOr (c .«read_plain») (c .«read_negated»))) 1 0
+  unfolding readLiteral
+  read-long k =
+      literal-long (bit k (c .«read_plain»)) (bit k (c .«read_negated»)) k 0 (0x80 + k) 0
+      ∙ ap (λ (b : Bool). 2 * cond b 1 0) (sym (bit-or k (c .«read_plain») (c .«read_negated»)))
+
+  output-long : (k : ℕ) → length (outputLiteral c k) ≡ 2 * cond (bit k (outs c)) 1 0
+  unfolding outputLiteral
+  output-long k =
+      literal-long (bit k (c .«out_plain»)) (bit k (c .«out_negated»)) (0x40 + k) (rank c k) (0xC0 + k) (rank c k)
+      ∙ ap (λ (b : Bool). 2 * cond b 1 0) (sym (bit-or k (c .«out_plain») (c .«out_negated»)))
+
+  -- two for each one of the masks, no more than for 28 points
+  pub literals-long : bitOr (c .«read_plain») (c .«read_negated») < 2 ^ 16 → outs c < 2 ^ 12
+      → (2 * (ones (bitOr (c .«read_plain») (c .«read_negated»)) + ones (outs c)) ≡ length (literalBody c)) × (length (literalBody c) ≤ 56)
+  unfolding literalBody
+  literals-long hr ho =
+      let reads : ℕ = bitOr (c .«read_plain») (c .«read_negated») in
+      let lr = joined-long (readLiteral c) (λ k. bit k reads) read-long 16 in
+      let lo = joined-long (outputLiteral c) (λ k. bit k (outs c)) output-long 12 in
+      let both = length-append (joined 16 (readLiteral c)) (joined 12 (outputLiteral c)) in (
+        omega (arith, lr, lo, both, ones-below 16 reads (omega arith) hr, ones-below 12 (outs c) (omega arith) ho),
+        omega (arith, lr, lo, both, count-le 16 (λ k. bit k reads), count-le 12 (λ k. bit k (outs c))),
+      )
