@@ -66,10 +66,6 @@ upto-ind s w (suc i) P none on off =
 
 -- ---- its form
 
--- at most one entry for each constraint
-pub upto-few : (s : Set) (w i : ℕ) → tableUpto s w i .count ≤ i
-upto-few s w i = upto-ind s w i (λ (k : ℕ) (t : Table). t .count ≤ k) (omega arith) (λ k h f e. omega arith) (λ k h f e. omega arith)
-
 -- the holds are the set's, and the lists have 64 places
 pub record Formed (s : Set) (w : ℕ) (t : Table) : Type 0 where
   pub f0-is : t .f0 ≡ F0 s w

@@ -146,14 +146,6 @@ module _ (s : Set) (w : ℕ) where
   unfolding after
   meets-reaches g j r = (j + r .0, ap (safe s w) (iterate-add (pass s w) (startVector s w g) j (r .0)) ∙ r .1)
 
-  -- and every vector of that walk is such a vector too
-  pub path-reaches : (request i d : ℕ) → ReachesFrom s w (after s w request (i + d)) → ReachesFrom s w (after s w request i)
-  unfolding after
-  path-reaches g i d r = (
-    d + r .0,
-    ap (safe s w) (iterate-add (pass s w) (after s w g i) d (r .0) ∙ ap (iterate (pass s w) (r .0)) (sym (iterate-add (pass s w) (startVector s w g) i d))) ∙ r .1,
-  )
-
   -- a walk's start vector is such a vector if the walk reaches a safe one
   pub reaches-after : (request : ℕ) → Reaches s w request → ReachesFrom s w (startVector s w request)
   unfolding after

@@ -114,7 +114,7 @@ bool-off false b h = refl
 
 every-nine : (a b c d e f g h i : Bool) → a ≡ true → b ≡ true → c ≡ true → d ≡ true → e ≡ true → f ≡ true → g ≡ true → h ≡ true → i ≡ true
     → every (a ∷ b ∷ c ∷ d ∷ e ∷ f ∷ g ∷ h ∷ i ∷ []) ≡ true
-every-nine a b c d e f g h i a′ b′ c′ d′ e′ f′ g′ h′ i′ = rw (a′, b′, c′, d′, e′, f′, g′, h′, i′)
+every-nine a b c d e f g h i a′ b′ c′ d′ e′ f′ g′ h′ i′ = λ j. every (a′ j ∷ b′ j ∷ c′ j ∷ d′ j ∷ e′ j ∷ f′ j ∷ g′ j ∷ h′ j ∷ i′ j ∷ [])
 
 sound-tests : (r n p : ℕ) (c : Constraint) → Sound r n p c → 16 < p → every (constraintTests r n c) ≡ true
 unfolding constraintTests rankOk

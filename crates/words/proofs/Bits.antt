@@ -10,7 +10,7 @@ use native.Mathlib.Omega.{arith}
 use lib.Dec.{eqb, eqb·zero-suc, eqb·suc-zero, eqb·suc-suc, lit<}
 use lib.Arith.{digits-mod, lt-one}
 use lib.Pow.{shr-shr, pow-mono, pow-pos, shr-lt}
-use lib.Bits.{and-le-r, and-mask, or-lt, bitAnd, bitOr, bitXor, differ, and-step, or-step, xor-step, and-shr, or-shr, xor-shr}
+use lib.Bits.{and-le-r, or-lt, bitAnd, bitOr, bitXor, differ, and-step, or-step, xor-step, and-shr, or-shr, xor-shr}
 use borrow.Author.Tests.{eqb-true, eq-eqb, ne-eqb}
 use Rattle.words.proofs.Bools.{clash, and-true, same-truth}
 use Rattle.words.specs.Word.{odd, bit, without, meets}
@@ -209,11 +209,6 @@ meets-once n p q w hp hq once =
   where
     row : (k : ℕ) → bit k (bitAnd w (bitOr p q)) ≡ bit k w && (bit k p || bit k q)
     row k = bit-and k w (bitOr p q) ∙ ap (λ (b : Bool). bit k w && b) (bit-or k p q)
-
--- a bit as code reads it, `(w >> k) & 1 == 1`
-pub bit-read : (k w : ℕ) → eqb (bitAnd (w / 2 ^ k) 1) 1 ≡ bit k w
-unfolding bit odd
-bit-read k w = ap (λ (x : ℕ). eqb x 1) (and-mask (w / 2 ^ k) 1)
 
 -- ---- `meets`, by the way that its first test went
 

@@ -13,7 +13,7 @@ use borrow.Author.Tests.{eq-eqb, ne-eqb, ltb-true, ltb-false}
 use Rattle.words.specs.Word.{bit}
 use Rattle.words.specs.Loop.{gather, place, word, some, all, firstFrom, first}
 use Rattle.words.proofs.Bools.{by-test, clash, or-true, and-true, and-false}
-use Rattle.words.proofs.Bits.{bit-and, bit-or, bit-zero, bit-pow, same-bits, no-bits}
+use Rattle.words.proofs.Bits.{bit-and, bit-or, bit-zero, bit-pow, no-bits}
 
 -- ---- below a count: the last, or below
 
@@ -204,10 +204,6 @@ word-lt n p = gather-lt n n (place p) (λ i h. small i h (p i))
     small : (i : ℕ) → i < n → (b : Bool) → cond b (2 ^ i) 0 < 2 ^ n
     small i h true = pow-lt h
     small i h false = pow-pos n
-
--- a word is the word of its bits
-pub word-bits : (n w : ℕ) → w < 2 ^ n → word n (λ k. bit k w) ≡ w
-word-bits n w h = same-bits n (word n (λ k. bit k w)) w (word-lt n (λ k. bit k w)) h (λ k l. bit-word k n (λ i. bit i w) l)
 
 -- the low bits are set
 pub bit-low : (n k : ℕ) → k < n → bit k (2 ^ n - 1) ≡ true

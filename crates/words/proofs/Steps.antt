@@ -43,8 +43,5 @@ pub all-more : (n : ℕ) (p : ℕ → Bool) → all (n + 1) p ≡ (all n p && p 
 unfolding all
 all-more n p = ap (λ (k : ℕ). all k p) (add-one n)
 
-pub all-pass : (p : ℕ → Bool) (n : ℕ) → all n p ≡ true → p n ≡ true → all (n + 1) p ≡ true
-all-pass p n e h = all-more n p ∙ ap₂ _&&_ e h
-
 pub all-step : (p : ℕ → Bool) (n : ℕ) (b r x : Bool) → b ≡ all n p → r ≡ p n → x ≡ (b && r) → x ≡ all (n + 1) p
 all-step p n b r x eb er ex = ex ∙ ap₂ _&&_ eb er ∙ sym (all-more n p)
