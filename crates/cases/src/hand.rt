@@ -1,11 +1,11 @@
 // Cases that no file can show: sets and states made by hand, and what is left of lent buffers and scratch.
 use super::print;
-use scan::Found;
-use scan::ScanAnswer;
+use machine::ScanAnswer;
 use scan::Set;
 use scan::State;
-use setfile::Written;
+use shape::Found;
 use verdict::Verdict;
+use writer::Written;
 
 // What lent bytes hold before a call.
 const FILL: u8 = 0xAA;
@@ -123,19 +123,19 @@ const FILE_ENDLESS: [u8; 30] = [
 ];
 
 fn set_p() -> Set {
-    let loaded = setfile::load(&FILE_P);
+    let loaded = loader::load(&FILE_P);
     let set = loaded.set;
     set
 }
 
 fn set_clashing() -> Set {
-    let loaded = setfile::load(&FILE_CLASHING);
+    let loaded = loader::load(&FILE_CLASHING);
     let set = loaded.set;
     set
 }
 
 fn set_endless() -> Set {
-    let loaded = setfile::load(&FILE_ENDLESS);
+    let loaded = loader::load(&FILE_ENDLESS);
     let set = loaded.set;
     set
 }
@@ -190,12 +190,12 @@ fn both_ways() -> Set {
 
 fn print_formed() {
     io::write_all(1, b"well formed:");
-    print_test(scan::well_formed(set_p()));
-    print_test(scan::well_formed(scan::zero_set()));
-    print_test(scan::well_formed(stray_name()));
-    print_test(scan::well_formed(stray_rank()));
-    print_test(scan::well_formed(stray_constraint()));
-    print_test(scan::well_formed(both_ways()));
+    print_test(shape::well_formed(set_p()));
+    print_test(shape::well_formed(scan::zero_set()));
+    print_test(shape::well_formed(stray_name()));
+    print_test(shape::well_formed(stray_rank()));
+    print_test(shape::well_formed(stray_constraint()));
+    print_test(shape::well_formed(both_ways()));
     io::write_all(1, b"\n");
 }
 
@@ -214,7 +214,7 @@ fn is_filled(buf: &[u8], from: usize) -> bool {
 
 // Writing into a buffer: the answer, and whether bytes from `from` on are untouched.
 fn print_write(set: Set, buf: &mut [u8], from: usize) {
-    let written = setfile::write(set, buf);
+    let written = writer::write(set, buf);
     match written {
         Written::Wrote(n) => {
             print_number(0);
@@ -269,7 +269,7 @@ fn print_judged(set: Set, scratch: &mut [u8], from: usize) {
 }
 
 fn print_found(set: Set, name: &[u8]) {
-    let found = scan::find(set, name);
+    let found = shape::find(set, name);
     match found {
         Found::Read(k) => {
             print_number(0);
@@ -298,7 +298,7 @@ fn print_scan(set: Set, past_output: u16, past_sensor: u32, sensor: u32, request
         past_output,
         past_sensor,
     };
-    let scanned = scan::scan(state, sensor, request);
+    let scanned = machine::scan(state, sensor, request);
     let answer = scanned.answer;
     let next = scanned.state;
     match answer {

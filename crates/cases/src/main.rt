@@ -2,13 +2,13 @@
 // answer, a line each; before that, cases made by hand. A corpus is pairs of records of a two-byte length and the bytes: a file, and scans of six bytes each.
 mod hand; // sets and states made by hand
 
-use scan::Found;
-use scan::ScanAnswer;
+use loader::LoadAnswer;
+use machine::ScanAnswer;
 use scan::Set;
 use scan::State;
-use setfile::LoadAnswer;
-use setfile::Written;
+use shape::Found;
 use verdict::Verdict;
+use writer::Written;
 ghost use Prim.Native.Nat.{_<_, _≤_};
 
 // The most pairs of records that are read.
@@ -63,7 +63,7 @@ fn is_same(a: &[u8], b: &[u8], n: usize) -> bool {
 fn print_written(set: Set, file: &[u8]) {
     let mut buf = io::buffer();
     io::write_all(1, b"WRITE ");
-    let written = setfile::write(set, &mut buf);
+    let written = writer::write(set, &mut buf);
     match written {
         Written::Wrote(n) => {
             print(n);
@@ -102,7 +102,7 @@ fn name_length(name: [u8; 8]) -> usize
 fn print_found(set: Set, name: [u8; 8]) {
     let n = name_length(name);
     if n <= 8 {
-        let found = scan::find(set, &name[0..n]);
+        let found = shape::find(set, &name[0..n]);
         match found {
             Found::Read(k) => {
                 io::write_all(1, b" R");
@@ -153,7 +153,7 @@ fn print_outputs(set: Set) {
 
 // One scan; the state for the next.
 fn scan_one(state: State, sensor: u32, request: u16) -> State {
-    let scanned = scan::scan(state, sensor, request);
+    let scanned = machine::scan(state, sensor, request);
     let answer = scanned.answer;
     match answer {
         ScanAnswer::Sent { vector, passes } => {
@@ -228,7 +228,7 @@ fn print_verdict(set: Set, calls: &[u8]) {
 }
 
 fn print_file(file: &[u8], calls: &[u8]) {
-    let loaded = setfile::load(file);
+    let loaded = loader::load(file);
     let answer = loaded.answer;
     match answer {
         LoadAnswer::Refused { number, offset } => {

@@ -9,13 +9,13 @@ use native.Mathlib.Omega.{arith}
 use borrow.Author.Tests.{lt-leb, le-leb}
 use lib.Dec.{leb}
 use lib.ListN.{length, getD, take, drop, set, length-append}
-use Rattle.setfile.specs.Write.{putAt}
-use Rattle.setfile.proofs.WriteLaws.{put-next}
+use Rattle.writer.specs.Write.{putAt}
+use Rattle.writer.proofs.WriteLaws.{put-next}
 use Rattle.line.specs.declared.printer.Line.{Line}
-use Rattle.setfile.specs.declared.loader.Loaded.{Loaded}
-use Rattle.setfile.specs.declared.loader.LoadAnswer.{LoadAnswer}
-use Rattle.setfile.specs.declared.loader.LoadAnswer.the-variants.{Loaded as WasLoaded, Refused as WasRefused}
-use Rattle.setfile.specs.Load.{loadOf}
+use Rattle.loader.specs.declared.loader.Loaded.{Loaded}
+use Rattle.loader.specs.declared.loader.LoadAnswer.{LoadAnswer}
+use Rattle.loader.specs.declared.loader.LoadAnswer.the-variants.{Loaded as WasLoaded, Refused as WasRefused}
+use Rattle.loader.specs.Load.{loadOf}
 use Rattle.verdict.specs.declared.verdict.Verdict.{Verdict}
 use Rattle.verdict.specs.Judge.{judgeOf, looseBytes}
 use Rattle.line.specs.declared.printer.Line.the-variants.{Accept, Load, NoVector, NoEnd}

@@ -8,9 +8,9 @@ use native.Mathlib.Omega.{arith}
 use lib.Pow.{pow-mono}
 use Rattle.scan.specs.Shape.{wellFormed}
 use Rattle.scan.proofs.Formed.{counts}
-use Rattle.setfile.specs.Bytes.{Bytes}
-use Rattle.setfile.specs.declared.loader.LoadAnswer.the-variants.{Loaded}
-use Rattle.setfile.specs.Load.{loadOf}
+use Rattle.header.specs.Bytes.{Bytes}
+use Rattle.loader.specs.declared.loader.LoadAnswer.the-variants.{Loaded}
+use Rattle.loader.specs.Load.{loadOf}
 use Rattle.setfile.proofs.WriteLoaded.{write-loaded}
 use Rattle.verdict.specs.Judge.{judgeOf}
 use Rattle.verdict.specs.Meaning.{Means}

@@ -6,9 +6,9 @@ use mathlib.Core.List.{List, [], _∷_, _++_}
 use lib.Dec.{leb, eqb}
 use lib.ListN.{length, take, drop}
 use Rattle.scan.specs.declared.set.Set.{Set}
-use Rattle.setfile.specs.declared.loader.LoadAnswer.{LoadAnswer}
-use Rattle.setfile.specs.declared.loader.LoadAnswer.the-variants.{Loaded, Refused}
-use Rattle.setfile.specs.Load.{loadOf}
+use Rattle.loader.specs.declared.loader.LoadAnswer.{LoadAnswer}
+use Rattle.loader.specs.declared.loader.LoadAnswer.the-variants.{Loaded, Refused}
+use Rattle.loader.specs.Load.{loadOf}
 use Rattle.verdict.specs.declared.verdict.Verdict.{Verdict}
 use Rattle.verdict.specs.declared.verdict.Verdict.the-variants.{Accepted, BadSet, ShortScratch, NoVector as WordNoVector, NoEnd as WordNoEnd}
 use Rattle.verdict.specs.Judge.{judgeOf, looseBytes}

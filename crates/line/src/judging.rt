@@ -1,8 +1,8 @@
 // The line of a file: it is loaded, and the set is judged.
 use super::printer::Line;
+use loader::LoadAnswer;
+use loader::load;
 use scan::Set;
-use setfile::LoadAnswer;
-use setfile::load;
 use verdict::Verdict;
 use verdict::judge;
 ghost use mathlib.Core.Path.{_≡_};

@@ -11,9 +11,9 @@ use Rattle.scan.specs.Constraint.{readsTrue, outsTrue, isTrue, simple, combined
 use Rattle.scan.specs.Holds.{holding, toZero, toOne, F0, F1, unheldBy, unheld, unheldCount, startFrom, startVector}
 use Rattle.scan.specs.Pass.{lowest, hasRank, yielding, yields, fires, flips, pass}
 use Rattle.scan.specs.Walk.{walkBy, walk}
-use Rattle.scan.specs.Past.{readingAt, readWord}
-use Rattle.scan.specs.Machine.{stateOk, isPast, sensorOk, requestOk, scanOf}
-use Rattle.scan.specs.History.{run}
+use Rattle.machine.specs.Past.{readingAt, readWord}
+use Rattle.machine.specs.Machine.{stateOk, isPast, sensorOk, requestOk, scanOf}
+use Rattle.machine.specs.History.{run}
 use Rattle.verdict.specs.Judge.{hasVector, endless, fails, rejectionBy, rejection, verdictAt, judgeWords, judgeOf}
 use Rattle.verdict.specs.Start.{startOf}
 use Rattle.promise.specs.Cases.{AllAnswered, starred, further}

@@ -13,17 +13,18 @@ use Rattle.words.proofs.Bools.{by-test}
 use Rattle.scan.specs.declared.set.Set.{Set}
 use Rattle.scan.specs.Shape.{wellFormed}
 use Rattle.verdict.proofs.JudgeLaws.{bad-set}
-use Rattle.setfile.specs.declared.loader.LoadAnswer.{LoadAnswer}
-use Rattle.setfile.specs.declared.loader.LoadAnswer.the-variants.{Loaded as WasLoaded, Refused as WasRefused}
-use Rattle.setfile.specs.declared.loader.Loaded.{Loaded}
-use Rattle.setfile.specs.Load.{loadOf}
-use Rattle.setfile.specs.Write.{writeOf, writeAnswer, bufferAfter, putAt}
-use Rattle.setfile.specs.Told.{loadTold, writeTold}
-use Rattle.setfile.proofs.Columns.{load-refused, load-taken}
+use Rattle.loader.specs.declared.loader.LoadAnswer.{LoadAnswer}
+use Rattle.loader.specs.declared.loader.LoadAnswer.the-variants.{Loaded as WasLoaded, Refused as WasRefused}
+use Rattle.loader.specs.declared.loader.Loaded.{Loaded}
+use Rattle.loader.specs.Load.{loadOf}
+use Rattle.writer.specs.Write.{writeOf, writeAnswer, bufferAfter, putAt}
+use Rattle.loader.specs.LoadTold.{loadTold}
+use Rattle.writer.specs.WriteTold.{writeTold}
+use Rattle.loader.proofs.Columns.{load-refused, load-taken}
 use Rattle.setfile.proofs.LoadWritten.{load-written}
 use Rattle.setfile.proofs.WriteLoaded.{write-loaded}
-use Rattle.setfile.proofs.Refusals.{refused-zero}
-use Rattle.setfile.proofs.WriteLaws as Write
+use Rattle.loader.proofs.Refusals.{refused-zero}
+use Rattle.writer.proofs.WriteLaws as Write
 use Rattle.promise.specs.Promise.{LoadRefusals, WriteRefusals}
 use Rattle.promise.proofs.Numbers.{apart}
 

@@ -10,23 +10,24 @@ use lib.Seq.{take-append-seam}
 use Rattle.words.proofs.Bools.{by-test}
 use Rattle.scan.specs.declared.set.Set.{Set}
 use Rattle.scan.specs.declared.set.State.{State}
-use Rattle.scan.specs.declared.machine.Scanned.{Scanned}
+use Rattle.machine.specs.declared.machine.Scanned.{Scanned}
 use Rattle.scan.specs.Set.{zeroSet}
 use Rattle.scan.specs.Shape.{wellFormed}
-use Rattle.scan.specs.Machine.{scanOf}
-use Rattle.scan.specs.History.{passesDue}
-use Rattle.scan.specs.Told.{scanTold}
-use Rattle.scan.proofs.Answers.{sends-due, scan-answers, scan-keeps-set}
+use Rattle.machine.specs.Machine.{scanOf}
+use Rattle.scan.specs.Walk.{passesDue}
+use Rattle.machine.specs.Told.{scanTold}
+use Rattle.machine.proofs.Answers.{sends-due, scan-answers, scan-keeps-set}
 use Rattle.verdict.specs.Judge.{judgeOf}
 use Rattle.verdict.specs.Start.{startOf}
-use Rattle.setfile.specs.declared.loader.Loaded.{Loaded}
-use Rattle.setfile.specs.Bytes.{Bytes}
-use Rattle.setfile.specs.Load.{loadOf}
-use Rattle.setfile.specs.Write.{writeOf, writeAnswer, bufferAfter}
-use Rattle.setfile.specs.Told.{loadTold, writeTold}
+use Rattle.loader.specs.declared.loader.Loaded.{Loaded}
+use Rattle.header.specs.Bytes.{Bytes}
+use Rattle.loader.specs.Load.{loadOf}
+use Rattle.writer.specs.Write.{writeOf, writeAnswer, bufferAfter}
+use Rattle.loader.specs.LoadTold.{loadTold}
+use Rattle.writer.specs.WriteTold.{writeTold}
 use Rattle.setfile.proofs.WriteLoaded.{write-loaded}
 use Rattle.setfile.proofs.FilesAndSets.{formed-iff}
-use Rattle.setfile.proofs.Refusals.{zero-not-loaded}
+use Rattle.loader.proofs.Refusals.{zero-not-loaded}
 use Rattle.promise.specs.Allowed.{StateAllowed, SensorAllowed, RequestAllowed, wordOf}
 use Rattle.promise.specs.Promise.{Answers, Demand1, Demand2, Demand3}
 use Rattle.promise.proofs.FileRefusals.{told-loaded, written-loads, load-refusals, write-refusals}

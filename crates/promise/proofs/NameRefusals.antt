@@ -11,15 +11,15 @@ use lib.ListN.{length}
 use borrow.Author.Tests.{ltb-true, ltb-false, leb-true, le-leb}
 use Rattle.words.proofs.Bools.{by-test, clash, and-true}
 use Rattle.scan.specs.declared.set.Set.{Set}
-use Rattle.scan.specs.declared.finding.Found.{Found}
-use Rattle.scan.specs.declared.finding.Found.the-variants.{Read, Output, BadSet, BadLength, Unknown}
+use Rattle.shape.specs.declared.finding.Found.{Found}
+use Rattle.shape.specs.declared.finding.Found.the-variants.{Read, Output, BadSet, BadLength, Unknown}
 use Rattle.scan.specs.Names.{lengthOk, allNameBytes, padded, firstRead, firstOutput}
 use Rattle.scan.specs.Shape.{wellFormed}
-use Rattle.scan.specs.Finding.{findPadded, findOf}
-use Rattle.scan.specs.Told.{findTold}
-use Rattle.scan.proofs.Finds.{find-read, find-output, find-none, find-bad, find-length, find-strange, find-named}
-use Rattle.scan.proofs.Naming.{read-found, output-found, found-read, found-output}
-use Rattle.setfile.proofs.WriteLaws as Write
+use Rattle.shape.specs.Finding.{findPadded, findOf}
+use Rattle.shape.specs.FoundTold.{findTold}
+use Rattle.shape.proofs.Finds.{find-read, find-output, find-none, find-bad, find-length, find-strange, find-named}
+use Rattle.shape.proofs.FoundPoints.{read-found, output-found, found-read, found-output}
+use Rattle.writer.proofs.WriteLaws as Write
 use Rattle.promise.specs.Allowed.{readName, outputName, LengthAllowed, NoPoint}
 use Rattle.promise.specs.Promise.{FindRefusals}
 use Rattle.promise.proofs.Numbers.{apart}

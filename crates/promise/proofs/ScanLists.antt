@@ -11,13 +11,13 @@ use borrow.Author.Tests.{ltb-false}
 use Rattle.words.proofs.Bools.{by-test}
 use Rattle.scan.specs.declared.set.Set.{Set}
 use Rattle.scan.specs.declared.set.State.{State}
-use Rattle.scan.specs.declared.machine.ScanAnswer.{ScanAnswer}
+use Rattle.machine.specs.declared.machine.ScanAnswer.{ScanAnswer}
 use Rattle.scan.specs.Set.{zeroState}
 use Rattle.scan.specs.Shape.{wellFormed}
-use Rattle.scan.specs.Machine.{sensorOk, requestOk}
-use Rattle.scan.specs.Told.{scanTold}
-use Rattle.scan.specs.History.{Call, allowed, run, runState, stateAfter, pastSensor, pastOutput, Right, AllRight}
-use Rattle.scan.proofs.Histories.{all-right, list-state}
+use Rattle.machine.specs.Machine.{sensorOk, requestOk}
+use Rattle.machine.specs.Told.{scanTold}
+use Rattle.machine.specs.History.{Call, allowed, run, runState, stateAfter, pastSensor, pastOutput, Right, AllRight}
+use Rattle.machine.proofs.Histories.{all-right, list-state}
 use Rattle.verdict.specs.declared.verdict.Verdict.{Verdict}
 use Rattle.verdict.specs.declared.verdict.Verdict.the-variants.{Accepted, BadSet, ShortScratch, NoVector, NoEnd}
 use Rattle.verdict.specs.Judge.{judgeOf}

@@ -8,15 +8,15 @@ use Prim.Native.Nat.{ℕ}
 use Rattle.words.proofs.Bools.{by-test}
 use Rattle.scan.specs.declared.set.Set.{Set}
 use Rattle.scan.specs.declared.set.State.{State}
-use Rattle.scan.specs.declared.machine.Scanned.{Scanned}
+use Rattle.machine.specs.declared.machine.Scanned.{Scanned}
 use Rattle.scan.specs.Walk.{Reaches}
-use Rattle.scan.specs.Machine.{stateOk, sensorOk, requestOk, scanOf}
-use Rattle.scan.specs.History.{vectorDue, passesDue}
-use Rattle.scan.specs.Told.{scanTold}
-use Rattle.scan.proofs.ReadWords.{sensor-lt, sensor-bits, sensor-allowed}
+use Rattle.machine.specs.Machine.{stateOk, sensorOk, requestOk, scanOf}
+use Rattle.scan.specs.Walk.{vectorDue, passesDue}
+use Rattle.machine.specs.Told.{scanTold}
+use Rattle.machine.proofs.ReadWords.{sensor-lt, sensor-bits, sensor-allowed}
 use Rattle.scan.proofs.Walks.{reaches-or-never}
-use Rattle.scan.proofs.Answers.{state-parts, state-passes, state-formed, request-lt, request-passes, scan-bad-state, scan-bad-sensor, scan-bad-request, scan-sends, scan-unsafe, refused-keeps-state}
-use Rattle.setfile.proofs.WriteLaws as Write
+use Rattle.machine.proofs.Answers.{state-parts, state-passes, state-formed, request-lt, request-passes, scan-bad-state, scan-bad-sensor, scan-bad-request, scan-sends, scan-unsafe, refused-keeps-state}
+use Rattle.writer.proofs.WriteLaws as Write
 use Rattle.promise.specs.Allowed.{StateAllowed, SensorAllowed, RequestAllowed, wordOf}
 use Rattle.promise.specs.Promise.{ScanRefusals}
 use Rattle.promise.proofs.Numbers.{apart}

@@ -18,7 +18,7 @@ use Rattle.verdict.specs.Told.{verdictTold}
 use Rattle.verdict.specs.Meaning.{Means}
 use Rattle.verdict.proofs.Verdicts.{verdict-means}
 use Rattle.verdict.proofs.JudgeLaws.{bad-set, short-scratch, loose-bad, loose-short, loose}
-use Rattle.setfile.proofs.WriteLaws as Write
+use Rattle.writer.proofs.WriteLaws as Write
 use Rattle.promise.specs.Promise.{VerdictRefusals}
 use Rattle.promise.proofs.Numbers.{apart}
 

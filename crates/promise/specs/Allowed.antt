@@ -12,7 +12,7 @@ use Rattle.scan.specs.declared.set.State.{State}
 use Rattle.scan.specs.Set.{namePlaces, kind, readPoint, outputPoint}
 use Rattle.scan.specs.Names.{nameBytes}
 use Rattle.scan.specs.Shape.{isSensor, wellFormed}
-use Rattle.scan.specs.Past.{readWord}
+use Rattle.machine.specs.Past.{readWord}
 
 -- ---- scans
 

@@ -3,8 +3,8 @@
 use mathlib.Core.List.{List, [], _∷_}
 use mathlib.Core.Logic.{_≢_}
 use Prim.Native.Nat.{ℕ}
-use Rattle.scan.specs.declared.machine.ScanAnswer.{ScanAnswer}
-use Rattle.scan.specs.Told.{scanTold}
+use Rattle.machine.specs.declared.machine.ScanAnswer.{ScanAnswer}
+use Rattle.machine.specs.Told.{scanTold}
 
 -- no answer of the list is the refusal of this number
 abbrev pub NeverTold : ℕ → List ScanAnswer → Type 0

@@ -8,10 +8,10 @@ use Rattle.words.specs.Word.{bit}
 use Rattle.scan.specs.declared.set.Set.{Set}
 use Rattle.scan.specs.Set.{zeroSet}
 use Rattle.scan.specs.Holds.{F0, F1, unheldCount}
-use Rattle.scan.specs.History.{Call, run}
-use Rattle.scan.specs.Told.{scanTold}
+use Rattle.machine.specs.History.{Call, run}
+use Rattle.machine.specs.Told.{scanTold}
 use Rattle.scan.specs.Samples.{setP, P, now, nameA, setOf, product, clashing, endless, equalRanks, twoPairs, risingEdge, forcedOn, afterB, threePasses}
-use Rattle.scan.specs.Worked.{call, sent, no}
+use Rattle.machine.specs.Worked.{call, sent, no}
 use Rattle.verdict.specs.Judge.{judgeOf}
 use Rattle.verdict.specs.Start.{startOf}
 use Rattle.verdict.specs.Told.{verdictTold}

@@ -16,19 +16,22 @@ use Rattle.scan.specs.Set.{stateOf, freshState, zeroSet, zeroState}
 use Rattle.scan.specs.Names.{allNameBytes}
 use Rattle.scan.specs.Shape.{wellFormed}
 use Rattle.scan.specs.Walk.{Reaches}
-use Rattle.scan.specs.Finding.{findOf}
-use Rattle.scan.specs.Machine.{scanOf}
-use Rattle.scan.specs.Told.{scanTold, findTold}
-use Rattle.scan.specs.History.{Call, Sends, vectorDue, run, runState, followed, stateAfter, AllRight}
+use Rattle.shape.specs.Finding.{findOf}
+use Rattle.machine.specs.Machine.{scanOf}
+use Rattle.machine.specs.Told.{scanTold}
+use Rattle.shape.specs.FoundTold.{findTold}
+use Rattle.machine.specs.History.{Call, Sends, run, runState, followed, stateAfter, AllRight}
+use Rattle.scan.specs.Walk.{vectorDue}
 use Rattle.verdict.specs.Judge.{judgeOf, looseBytes}
 use Rattle.verdict.specs.Start.{startOf}
 use Rattle.verdict.specs.Told.{verdictTold}
 use Rattle.verdict.specs.Meaning.{Good, FirstWithout, FirstEndless, Bad}
-use Rattle.setfile.specs.Bytes.{Bytes}
-use Rattle.setfile.specs.Load.{loadOf}
-use Rattle.setfile.specs.Column.{FirstFails, NoneFails, loadTests}
-use Rattle.setfile.specs.Write.{writeOf, writeAnswer, bufferAfter}
-use Rattle.setfile.specs.Told.{loadTold, writeTold}
+use Rattle.header.specs.Bytes.{Bytes}
+use Rattle.loader.specs.Load.{loadOf}
+use Rattle.loader.specs.Column.{FirstFails, NoneFails, loadTests}
+use Rattle.writer.specs.Write.{writeOf, writeAnswer, bufferAfter}
+use Rattle.loader.specs.LoadTold.{loadTold}
+use Rattle.writer.specs.WriteTold.{writeTold}
 use Rattle.promise.specs.Allowed.{StateAllowed, SensorAllowed, RequestAllowed, wordOf, readName, outputName, LengthAllowed, NoPoint}
 use Rattle.promise.specs.Answers.{NeverTold}
 

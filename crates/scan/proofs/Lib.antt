@@ -1,8 +1,6 @@
-pub mod NameLists
-pub mod Shapes
-pub mod Finds
-pub mod Points
 pub mod Formed
+pub mod Shapes
+pub mod Points
 pub mod Naming
 pub mod Masks
 pub mod Ranks
@@ -12,8 +10,4 @@ pub mod Safety
 pub mod Turns
 pub mod Tables
 pub mod Walks
-pub mod ReadWords
-pub mod Answers
-pub mod Histories
 pub mod LoneRanks
-pub mod WorkedCases

@@ -1,30 +1,19 @@
--- A lone output's rank is never read: two sets that differ only in the ranks of their simple constraints have the same walks and the same
--- answers.
+-- A lone output's rank is never read: two sets that differ only in the ranks of their simple constraints have the same holds and passes.
 -- Assumes nothing.
-use mathlib.Core.Path.{_≡_, refl, sym, ap, ap₂, _∙_}
-use mathlib.Core.Bool.{Bool, true, false, cond, not, _&&_}
-use Prim.Native.Nat.{ℕ, _-_, _^_}
-use mathlib.Core.Path.{fun-ext}
+use mathlib.Core.Path.{_≡_, sym, ap, ap₂, _∙_}
+use mathlib.Core.Bool.{Bool, true, cond, not, _&&_}
+use Prim.Native.Nat.{ℕ}
 use lib.Bits.{bitAnd, bitOr, bitXor}
 use Rattle.words.specs.Word.{meets, popcount}
-use Rattle.words.specs.Loop.{gather, some, word}
+use Rattle.words.specs.Loop.{gather, some}
 use Rattle.words.proofs.Bools.{by-test}
 use Rattle.words.proofs.Loops.{gather-cong, some-cong}
-use Rattle.scan.specs.declared.set.Kind.{Kind}
 use Rattle.scan.specs.declared.set.Constraint.{Constraint}
 use Rattle.scan.specs.declared.set.Set.{Set}
-use Rattle.scan.specs.declared.walk.Walk.{Walk}
-use Rattle.scan.specs.declared.walk.Walk.the-variants.{Safe, Never}
-use Rattle.scan.specs.declared.machine.ScanAnswer.{ScanAnswer}
-use Rattle.scan.specs.declared.machine.ScanAnswer.the-variants.{Sent, BadState, BadSensor, BadRequest, Unsafe}
-use Rattle.scan.specs.Set.{constraint, kind, outs, stateOf}
-use Rattle.scan.specs.Shape.{isSensor, wellFormed}
+use Rattle.scan.specs.Set.{constraint, kind, outs}
 use Rattle.scan.specs.Constraint.{readsTrue, outsTrue, isTrue, simple, combined, trueAt, safe}
-use Rattle.scan.specs.Holds.{holding, toZero, toOne, F0, F1, unheldBy, unheld, unheldCount, startFrom, startVector}
+use Rattle.scan.specs.Holds.{holding, toZero, toOne, F0, F1, unheldBy, unheld}
 use Rattle.scan.specs.Pass.{yielding, yields, fires, flips, pass}
-use Rattle.scan.specs.Walk.{walkBy, walk}
-use Rattle.scan.specs.Past.{reading, readingAt, readWord}
-use Rattle.scan.specs.Machine.{stateOk, isPast, sensorOk, requestOk, refused, sending, scanOf}
 
 -- two constraints with the same literals, and with the same ranks if they are combined
 pub record SameButLone (c d : Constraint) : Type 0 where
@@ -111,52 +100,3 @@ module _ (s t : Set) (a : AlikeButLone s t) (w : ℕ) where
   unfolding pass
   pass-alike v =
       ap (bitXor v) (gather-cong (s .m) (flips s w v) (flips t w v) (λ i h. flips-alike v i) ∙ ap (λ (m : ℕ). gather m (flips t w v)) (a .m-same))
-
-  -- every walk is the same
-  pub walk-alike : (request : ℕ) → walk s w request ≡ walk t w request
-  unfolding walk unheldCount startVector
-  walk-alike g = λ i.
-      walkBy (fun-ext safe-alike i) (fun-ext pass-alike i) (2 ^ popcount (unheld-alike i) - 1) (startFrom (F0-alike i) (F1-alike i) g) 0
-
--- ---- a scan
-
-module _ (s t : Set) (a : AlikeButLone s t) (formed : wellFormed s ≡ wellFormed t) (output sensor now request : ℕ) where
-  read-alike : readWord s output sensor now ≡ readWord t output sensor now
-  unfolding readWord readingAt
-  read-alike = λ i. word (a .r-same i) (fun-ext (λ k. ap (reading output sensor now k) (a .kinds k)) i)
-
-  sensor-alike : sensorOk s now ≡ sensorOk t now
-  unfolding sensorOk isPast
-  sensor-alike = λ i. lib.Dec.ltb now (2 ^ a .r-same i) && lib.Dec.eqb (bitAnd now (word (a .r-same i) (fun-ext (λ k. ap (λ (x : Kind). not (isSensor x)) (a .kinds k)) i))) 0
-
-  walked : Walk → ScanAnswer
-  walked (Safe v made) = Sent v made
-  walked Never = Unsafe
-
-  -- the answer, from the tests and the walk
-  answerBy : Bool → Bool → Bool → Walk → ScanAnswer
-  answerBy p q r x = cond (not p) BadState (cond (not q) BadSensor (cond (not r) BadRequest (walked x)))
-
-  by-tests : (u : Set) → scanOf (stateOf u output sensor) now request .answer
-      ≡ answerBy (stateOk (stateOf u output sensor)) (sensorOk u now) (requestOk u request) (walk u (readWord u output sensor now) request)
-  unfolding scanOf answerBy walked
-  by-tests u = go (stateOk (stateOf u output sensor)) (sensorOk u now) (requestOk u request) (walk u (readWord u output sensor now) request)
-    where
-      go : (p q r : Bool) (x : Walk)
-          → cond (not p) (refused (stateOf u output sensor) BadState)
-          (cond (not q) (refused (stateOf u output sensor) BadSensor)
-          (cond (not r) (refused (stateOf u output sensor) BadRequest) (sending (stateOf u output sensor) now x))) .answer ≡ answerBy p q r x
-      go true true true (Safe v made) = refl
-      go true true true Never = refl
-      go true true false x = refl
-      go true false r x = refl
-      go false q r x = refl
-
-  -- a lone output's rank changes no answer
-  pub scan-alike : scanOf (stateOf s output sensor) now request .answer ≡ scanOf (stateOf t output sensor) now request .answer
-  unfolding stateOk requestOk
-  scan-alike =
-      by-tests s
-      ∙ (λ i. answerBy (formed i && (lib.Dec.ltb output (2 ^ a .n-same i) && (lib.Dec.ltb sensor (2 ^ a .r-same i) && true))) (sensor-alike i)
-      (lib.Dec.ltb request (2 ^ a .n-same i)) ((walk-alike s t a (readWord s output sensor now) request ∙ ap (λ (w : ℕ). walk t w request) read-alike) i))
-      ∙ sym (by-tests t)

@@ -21,7 +21,7 @@ use Rattle.scan.specs.Constraint.{safe}
 use Rattle.scan.specs.Holds.{unheld, unheldCount, startVector}
 use Rattle.scan.specs.Pass.{pass}
 use Rattle.scan.specs.Walk.{walkBy, walk, after, Reaches, FirstSafe}
-use Rattle.scan.specs.History.{safeAfter, passesDue, vectorDue}
+use Rattle.scan.specs.Walk.{safeAfter, passesDue, vectorDue}
 use Rattle.scan.proofs.Formed.{wide}
 use Rattle.scan.proofs.Passes.{after-lt, after-agrees}
 use Rattle.scan.proofs.Turns.{by-stop, by-more}

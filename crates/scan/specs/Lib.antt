@@ -1,15 +1,9 @@
 pub mod Set
 pub mod Names
 pub mod Shape
-pub mod Finding
 pub mod Constraint
 pub mod Holds
 pub mod Pass
 pub mod Table
 pub mod Walk
-pub mod Past
-pub mod Machine
-pub mod Told
-pub mod History
 pub mod Samples
-pub mod Worked

@@ -9,7 +9,6 @@ use lib.ListN.{length, getD, take, replicate}
 use Rattle.words.specs.Loop.{every, all, first}
 use Rattle.scan.specs.declared.set.ReadPoint.{ReadPoint}
 use Rattle.scan.specs.declared.set.OutputPoint.{OutputPoint}
-use Rattle.scan.specs.declared.names.NameRead.{NameRead}
 use Rattle.scan.specs.Set.{namePlaces, zeroName, readPoint, outputPoint}
 
 -- a byte that a name may have
@@ -27,11 +26,6 @@ padded bytes = bytes ++ replicate (namePlaces - length bytes) 0
 -- 1 to 8 bytes
 abbrev pub lengthOk : List ℕ → Bool
 lengthOk bytes = leb 1 (length bytes) && leb (length bytes) namePlaces
-
--- the name that bytes spell: their eight places, or that they are none, beside zeros
-unfoldable pub nameRead : List ℕ → NameRead
-nameRead bytes =
-    cond (lengthOk bytes && allNameBytes bytes) (record { good = true; name = padded bytes }) (record { good = false; name = zeroName })
 
 -- byte place k is zero
 abbrev pub zeroAt : List ℕ → ℕ → Bool

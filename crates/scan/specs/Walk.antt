@@ -1,14 +1,14 @@
 -- The walk: the start vector, then one pass after another while the vector is unsafe.
 -- Assumes nothing.
 use mathlib.Core.Path.{_≡_}
-use Prim.Native.Nat.{ℕ, zero, suc, _<_}
+use Prim.Native.Nat.{ℕ, zero, suc, _<_, _^_}
 use mathlib.Core.Bool.{Bool, true, false, cond}
-use Rattle.words.specs.Loop.{iterate}
+use Rattle.words.specs.Loop.{iterate, first}
 use Rattle.scan.specs.declared.set.Set.{Set}
 use Rattle.scan.specs.declared.walk.Walk.{Walk}
 use Rattle.scan.specs.declared.walk.Walk.the-variants.{Safe, Never}
 use Rattle.scan.specs.Constraint.{safe}
-use Rattle.scan.specs.Holds.{passLimit, startVector}
+use Rattle.scan.specs.Holds.{unheldCount, passLimit, startVector}
 use Rattle.scan.specs.Pass.{pass}
 
 -- from the vector v, after `made` passes and with at most `left` more: the first safe vector and its passes
@@ -36,3 +36,15 @@ Reaches s w request = (k : ℕ) × (safe s w (after s w request k) ≡ true)
 pub record FirstSafe (s : Set) (w request k : ℕ) : Type 0 where
   pub here : safe s w (after s w request k) ≡ true
   pub before : (j : ℕ) → j < k → safe s w (after s w request j) ≡ false
+
+-- the vector after k passes is safe
+unfoldable pub safeAfter : Set → ℕ → ℕ → ℕ → Bool
+safeAfter s w request k = safe s w (after s w request k)
+
+-- the passes before the walk's first safe vector
+unfoldable pub passesDue : Set → ℕ → ℕ → ℕ
+passesDue s w request = first (2 ^ unheldCount s w) (safeAfter s w request)
+
+-- the vector due: the walk's first safe one
+unfoldable pub vectorDue : Set → ℕ → ℕ → ℕ
+vectorDue s w request = after s w request (passesDue s w request)

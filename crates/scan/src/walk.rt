@@ -1,15 +1,10 @@
 // The walk: the start vector, then one pass after another while the vector is unsafe.
-use super::holds::start_vector;
-use super::set::Set;
 use super::table::Table;
-use super::table::build;
 use super::table::is_safe;
 use super::table::pass_over;
 ghost use mathlib.Core.Path.{_≡_};
-ghost use mathlib.Core.Bool.{true};
-ghost use Rattle.scan.specs.Shape.{wellFormed};
 ghost use Rattle.scan.specs.Table.{safeOver, passOver};
-ghost use Rattle.scan.specs.Walk.{walkBy, walk};
+ghost use Rattle.scan.specs.Walk.{walkBy};
 
 // Where a walk ends: at a safe vector, with the passes made before it; or nowhere.
 pub enum Walk {
@@ -18,7 +13,7 @@ pub enum Walk {
 }
 
 // The walk over a table from the vector `from`, of at most `limit` passes.
-fn walk_over(t: Table, from: u16, limit: u16) -> Walk
+pub fn walk_over(t: Table, from: u16, limit: u16) -> Walk
     ensures { λ r. ⌜ r ≡ walkBy (safeOver (t .f0) (t .f1) (t .plain) (t .named) (t .count)) (passOver (t .plain) (t .named) (t .flip) (t .count)) limit from 0 ⌝ }
 {
     let f0 = t.f0;
@@ -43,13 +38,4 @@ fn walk_over(t: Table, from: u16, limit: u16) -> Walk
         };
     }
     Walk::Never
-}
-
-// The walk of a well-formed set at the read word w from a request.
-pub fn walk_from(s: Set, w: u32, request: u16) -> Walk
-    requires { ⌜ wellFormed s ≡ true ⌝ }
-    ensures { λ r. ⌜ r ≡ walk s w request ⌝ }
-{
-    let t = build(s, w);
-    walk_over(t, start_vector(t.f0, t.f1, request), t.limit)
 }

@@ -19,24 +19,24 @@ use Rattle.scan.specs.declared.set.Set.{Set}
 use Rattle.scan.specs.Set.{zeroConstraint, noConstraint}
 use Rattle.scan.specs.Shape.{constraintTests}
 use Rattle.scan.proofs.Formed.{Masks, constraint-masks}
-use Rattle.setfile.specs.declared.header.Header.{Header}
-use Rattle.setfile.specs.declared.header.Header.the-variants.{Refused as Stopped, Field}
-use Rattle.setfile.specs.declared.literal.Literals.{Literals}
-use Rattle.setfile.specs.declared.literal.Taken.{Taken}
-use Rattle.setfile.specs.declared.literal.Taken.the-variants.{Refused as Failed, Next}
-use Rattle.setfile.specs.declared.loader.Progress.the-variants.{At}
-use Rattle.setfile.specs.Bytes.{Bytes}
-use Rattle.setfile.specs.Header.{headerOf, bodyOf, fitsTable}
-use Rattle.setfile.specs.Literal.{literalsFrom, literalsOf}
-use Rattle.setfile.specs.Load.{refusal, goingOn, andThen, constraintDone, constraintGiven, constraintAt, endAt, constraintsGiven, constraintsFrom}
-use Rattle.setfile.specs.Write.{fieldOf, readLiteral, outputLiteral, joined, literalBody}
+use Rattle.header.specs.declared.header.Header.{Header}
+use Rattle.header.specs.declared.header.Header.the-variants.{Refused as Stopped, Field}
+use Rattle.loader.specs.declared.literal.Literals.{Literals}
+use Rattle.loader.specs.declared.literal.Taken.{Taken}
+use Rattle.loader.specs.declared.literal.Taken.the-variants.{Refused as Failed, Next}
+use Rattle.loader.specs.declared.loader.Progress.the-variants.{At}
+use Rattle.header.specs.Bytes.{Bytes}
+use Rattle.header.specs.Header.{headerOf, bodyOf, fitsTable}
+use Rattle.loader.specs.Literal.{literalsFrom, literalsOf}
+use Rattle.loader.specs.Load.{refusal, goingOn, andThen, constraintDone, constraintGiven, constraintAt, endAt, constraintsGiven, constraintsFrom}
+use Rattle.writer.specs.Write.{fieldOf, readLiteral, outputLiteral, joined, literalBody}
 use Rattle.setfile.proofs.Places.{mask}
 use Rattle.setfile.proofs.Joins.{worth, told, literal, joined-long}
 use Rattle.setfile.proofs.OneLiteral.{size}
 use Rattle.setfile.proofs.ConstraintBits.{Fine, fine}
 use Rattle.setfile.proofs.LiteralsBack.{literals-back}
 use Rattle.setfile.proofs.LiteralsTaken.{literals-taken}
-use Rattle.setfile.proofs.HeaderLaws.{table-bounds, due-is}
+use Rattle.header.proofs.HeaderLaws.{table-bounds, due-is}
 use Rattle.setfile.proofs.Fields.{body-back, field-back, found}
 use Rattle.setfile.proofs.Runs.{Run, Moved}
 

@@ -10,11 +10,11 @@ use lib.Dec.{leb, eqb}
 use lib.ListN.{length, getD, take, drop, drop-of-length-le, length-append, length-take, length-drop, take-append-drop}
 use lib.Seq.{take-append-seam, drop-at, drop-drop, length-take-le, getD-take, getD-drop}
 use borrow.Author.Tests.{le-leb}
-use Rattle.setfile.specs.declared.header.Header.the-variants.{Field}
-use Rattle.setfile.specs.Bytes.{Bytes}
-use Rattle.setfile.specs.Header.{fitsTable, isDue, bodyLength, headerOf, bodyOf}
-use Rattle.setfile.specs.Write.{fieldOf}
-use Rattle.setfile.proofs.HeaderLaws.{found as header-found}
+use Rattle.header.specs.declared.header.Header.the-variants.{Field}
+use Rattle.header.specs.Bytes.{Bytes}
+use Rattle.header.specs.Header.{fitsTable, isDue, bodyLength, headerOf, bodyOf}
+use Rattle.writer.specs.Write.{fieldOf}
+use Rattle.header.proofs.HeaderLaws.{found as header-found}
 
 -- ---- bytes
 

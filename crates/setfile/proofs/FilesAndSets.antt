@@ -7,11 +7,11 @@ use mathlib.Core.List.{List}
 use Prim.Native.Nat.{ℕ}
 use Rattle.scan.specs.declared.set.Set.{Set}
 use Rattle.scan.specs.Shape.{wellFormed}
-use Rattle.setfile.specs.declared.loader.Loaded.{Loaded}
-use Rattle.setfile.specs.declared.loader.LoadAnswer.the-variants.{Loaded as WasLoaded}
-use Rattle.setfile.specs.Bytes.{Bytes}
-use Rattle.setfile.specs.Load.{loadOf}
-use Rattle.setfile.specs.Write.{writeOf}
+use Rattle.loader.specs.declared.loader.Loaded.{Loaded}
+use Rattle.loader.specs.declared.loader.LoadAnswer.the-variants.{Loaded as WasLoaded}
+use Rattle.header.specs.Bytes.{Bytes}
+use Rattle.loader.specs.Load.{loadOf}
+use Rattle.writer.specs.Write.{writeOf}
 use Rattle.setfile.proofs.LoadWritten.{load-written}
 use Rattle.setfile.proofs.WrittenBytes.{written-bytes}
 use Rattle.setfile.proofs.WriteLoaded.{write-loaded}

@@ -13,7 +13,7 @@ use borrow.Author.Tests.{lt-ltb, le-ltb}
 use Rattle.words.specs.Word.{bit}
 use Rattle.scan.specs.declared.set.Constraint.{Constraint}
 use Rattle.scan.specs.Set.{rank}
-use Rattle.setfile.specs.Write.{readLiteral, outputLiteral, joined, literalBody}
+use Rattle.writer.specs.Write.{readLiteral, outputLiteral, joined, literalBody}
 use Rattle.setfile.proofs.Places.{byte, placeOf, mask}
 
 -- ---- what is joined

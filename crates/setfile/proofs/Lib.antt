@@ -1,11 +1,3 @@
-pub mod HeaderLaws
-pub mod ReaderWalks
-pub mod LiteralLaws
-pub mod LoadLaws
-pub mod Columns
-pub mod Keeps
-pub mod LiteralBytes
-pub mod WriteLaws
 pub mod Places
 pub mod Joins
 pub mod OneLiteral
@@ -23,7 +15,6 @@ pub mod PointKinds
 pub mod Blanks
 pub mod LoadWritten
 pub mod WrittenBytes
-pub mod Refusals
 pub mod WholeSets
 pub mod WriteLoaded
 pub mod FilesAndSets

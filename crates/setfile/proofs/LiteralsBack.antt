@@ -15,9 +15,9 @@ use Rattle.words.proofs.Bits.{bit-below, same-bits}
 use Rattle.scan.specs.declared.set.Constraint.{Constraint}
 use Rattle.scan.specs.Set.{rank, zeroConstraint}
 use Rattle.scan.proofs.Formed.{Masks}
-use Rattle.setfile.specs.declared.literal.Taken.the-variants.{Next}
-use Rattle.setfile.specs.Literal.{literalsFrom, literalsOf}
-use Rattle.setfile.specs.Write.{joined, literalBody}
+use Rattle.loader.specs.declared.literal.Taken.the-variants.{Next}
+use Rattle.loader.specs.Literal.{literalsFrom, literalsOf}
+use Rattle.writer.specs.Write.{joined, literalBody}
 use Rattle.setfile.proofs.Places.{byte, placeOf, mask, added, alike, alike-true, unlike, bit-hit, bit-sign, bit-miss, rank-hit, rank-miss}
 use Rattle.setfile.proofs.Joins.{worth, told, literal, placed, room, placed-at, by-place, body-placed}
 use Rattle.setfile.proofs.ConstraintBits.{Fine, fine}

@@ -19,11 +19,11 @@ use Rattle.words.proofs.Loops.{all-true}
 use Rattle.scan.specs.declared.set.Constraint.{Constraint}
 use Rattle.scan.specs.Set.{rank, outs, zeroConstraint}
 use Rattle.scan.specs.Shape.{rankOk, constraintTests}
-use Rattle.setfile.specs.declared.literal.Literals.{Literals}
-use Rattle.setfile.specs.declared.literal.Taken.the-variants.{Next}
-use Rattle.setfile.specs.Bytes.{Bytes}
-use Rattle.setfile.specs.Literal.{isOutput, isNegated, number, place, isLiteral, withLiteral, refusedLiterals, literalThen, literalsFrom, literalsOf}
-use Rattle.setfile.specs.Write.{joined, literalBody}
+use Rattle.loader.specs.declared.literal.Literals.{Literals}
+use Rattle.loader.specs.declared.literal.Taken.the-variants.{Next}
+use Rattle.header.specs.Bytes.{Bytes}
+use Rattle.loader.specs.Literal.{isOutput, isNegated, number, place, isLiteral, withLiteral, refusedLiterals, literalThen, literalsFrom, literalsOf}
+use Rattle.writer.specs.Write.{joined, literalBody}
 use Rattle.setfile.proofs.Places.{byte, byte-is, placeOf, place-says, mask, added, with-added, alike, alike-true, bit-hit, bit-sign, bit-else, bit-miss, rank-hit, rank-miss}
 use Rattle.setfile.proofs.Joins.{room, placed, body-placed, joined-same}
 use Rattle.setfile.proofs.OneLiteral.{size, Below, below-zero, below-added, blank-place, body-added, literal-is}

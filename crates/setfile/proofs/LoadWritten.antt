@@ -13,10 +13,10 @@ use Rattle.scan.specs.Set.{zeroSet, zeroConstraint, noConstraint, readPoint, ou
 use Rattle.scan.specs.Shape.{countTests, constraintTests, wellFormed}
 use Rattle.scan.proofs.Formed.{constraint-ok, counts, beyond-zero}
 use Rattle.scan.proofs.Points.{points-formed}
-use Rattle.setfile.specs.declared.loader.LoadAnswer.the-variants.{Loaded}
-use Rattle.setfile.specs.declared.loader.Loading.{Loading}
-use Rattle.setfile.specs.Load.{goingOn, andThen, refusal, withCounts, countsGiven, countsAt, constraintsFrom, afterCounts, afterReads, afterOutputs, answerOf, loadFrom, loadOf}
-use Rattle.setfile.specs.Write.{fieldOf, readBody, outputBody, literalBody, fieldsOf, writeOf}
+use Rattle.loader.specs.declared.loader.LoadAnswer.the-variants.{Loaded}
+use Rattle.loader.specs.declared.loader.Loading.{Loading}
+use Rattle.loader.specs.Load.{goingOn, andThen, refusal, withCounts, countsGiven, countsAt, constraintsFrom, afterCounts, afterReads, afterOutputs, answerOf, loadFrom, loadOf}
+use Rattle.writer.specs.Write.{fieldOf, readBody, outputBody, literalBody, fieldsOf, writeOf}
 use Rattle.setfile.proofs.Fields.{field-back}
 use Rattle.setfile.proofs.PointsFit.{read-fits, output-fits}
 use Rattle.setfile.proofs.Blanks.{read-blank, output-blank, constraint-blank}

@@ -12,10 +12,11 @@ use lib.Seq.{getD-append-add}
 use borrow.Author.Tests.{lt-ltb, le-ltb, eq-eqb}
 use Rattle.words.proofs.Bools.{cond-true, cond-false}
 use Rattle.words.proofs.Loops.{all-true, all-at}
-use Rattle.scan.specs.declared.names.NameRead.{NameRead}
-use Rattle.scan.specs.Names.{nameByte, allNameBytes, padded, lengthOk, nameRead, zeroAt, nameLength, nameBytes, placeOk, nameOk}
+use Rattle.shape.specs.declared.names.NameRead.{NameRead}
+use Rattle.scan.specs.Names.{nameByte, allNameBytes, padded, lengthOk, zeroAt, nameLength, nameBytes, placeOk, nameOk}
+use Rattle.shape.specs.NameRead.{nameRead}
 use Rattle.scan.proofs.Points.{name-formed}
-use Rattle.scan.proofs.Finds.{spell-name}
+use Rattle.shape.proofs.Finds.{spell-name}
 use Rattle.scan.proofs.Naming.{bytes-long, bytes-named, padded-bytes, padded-long, length-padded, bytes-padded}
 
 -- A well-formed name has 1 to 8 bytes.

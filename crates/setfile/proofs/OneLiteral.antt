@@ -14,8 +14,8 @@ use Rattle.words.proofs.Bools.{and-true}
 use Rattle.words.proofs.Bits.{bit-zero}
 use Rattle.scan.specs.declared.set.Constraint.{Constraint}
 use Rattle.scan.specs.Set.{rank, zeroConstraint}
-use Rattle.setfile.specs.Literal.{isOutput, spare, number, place, isLiteral, withLiteral, literalThen, literalsFrom}
-use Rattle.setfile.specs.Write.{literalBody}
+use Rattle.loader.specs.Literal.{isOutput, spare, number, place, isLiteral, withLiteral, literalThen, literalsFrom}
+use Rattle.writer.specs.Write.{literalBody}
 use Rattle.setfile.proofs.Places.{by-four, byte, placeOf, Says, byte-says, place-says, mask, added, with-added, alike-true, bit-hit, bit-sign, bit-miss, mask-wide, rank-hit, rank-miss, ranks-added}
 use Rattle.setfile.proofs.Joins.{worth, told, literal, placed, room, placed-at, by-place, joined-add, body-placed}
 

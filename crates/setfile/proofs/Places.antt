@@ -15,7 +15,7 @@ use Rattle.words.proofs.Bools.{by-test, and-true, or-right}
 use Rattle.words.proofs.Bits.{bit-or, bit-pow}
 use Rattle.scan.specs.declared.set.Constraint.{Constraint}
 use Rattle.scan.specs.Set.{rank}
-use Rattle.setfile.specs.Literal.{isOutput, isNegated, spare, number, place, withBit, withLiteral}
+use Rattle.loader.specs.Literal.{isOutput, isNegated, spare, number, place, withBit, withLiteral}
 
 -- a statement about two truth values
 pub by-four : (P : Bool → Bool → Type 0) → P true true → P true false → P false true → P false false → (a b : Bool) → P a b

@@ -15,15 +15,16 @@ use Rattle.scan.specs.declared.set.ReadPoint.{ReadPoint}
 use Rattle.scan.specs.declared.set.OutputPoint.{OutputPoint}
 use Rattle.scan.specs.declared.set.Set.{Set}
 use Rattle.scan.specs.Set.{readPoint}
-use Rattle.scan.specs.Names.{nameRead, nameBytes, firstOutput, isUsed}
+use Rattle.shape.specs.NameRead.{nameRead}
+use Rattle.scan.specs.Names.{nameBytes, firstOutput, isUsed}
 use Rattle.scan.specs.Shape.{isSensor, kindOk}
-use Rattle.setfile.specs.declared.point.Point.the-variants.{Good}
-use Rattle.setfile.specs.declared.point.KindRead.{KindRead}
-use Rattle.setfile.specs.declared.point.KindRead.the-variants.{Bad, Known}
-use Rattle.setfile.specs.declared.point.ReadField.{ReadField}
-use Rattle.setfile.specs.declared.point.OutputField.{OutputField}
-use Rattle.setfile.specs.Load.{kindIf, kindOf, deniedRead, readNamed, readTold, readField, deniedOutput, outputNamed, outputField}
-use Rattle.setfile.specs.Write.{kindBytes, readBody, outputBody}
+use Rattle.loader.specs.declared.point.Point.the-variants.{Good}
+use Rattle.loader.specs.declared.point.KindRead.{KindRead}
+use Rattle.loader.specs.declared.point.KindRead.the-variants.{Bad, Known}
+use Rattle.loader.specs.declared.point.ReadField.{ReadField}
+use Rattle.loader.specs.declared.point.OutputField.{OutputField}
+use Rattle.loader.specs.Load.{kindIf, kindOf, deniedRead, readNamed, readTold, readField, deniedOutput, outputNamed, outputField}
+use Rattle.writer.specs.Write.{kindBytes, readBody, outputBody}
 use Rattle.setfile.proofs.Fields.{two-and-rest}
 use Rattle.setfile.proofs.NamesBack.{name-back, name-taken}
 use Rattle.setfile.proofs.PointsFit.{ReadFits, OutputFits, not-used, unused}

@@ -15,17 +15,17 @@ use Rattle.scan.specs.declared.set.OutputPoint.{OutputPoint}
 use Rattle.scan.specs.declared.set.Set.{Set}
 use Rattle.scan.specs.Set.{zeroRead, zeroOutput, zeroSet, noRead, noOutput}
 use Rattle.scan.specs.Names.{nameBytes}
-use Rattle.setfile.specs.declared.header.Header.{Header}
-use Rattle.setfile.specs.declared.header.Header.the-variants.{Refused as Stopped, Field}
-use Rattle.setfile.specs.declared.point.Point.{Point}
-use Rattle.setfile.specs.declared.point.Point.the-variants.{Refused as Denied, Good}
-use Rattle.setfile.specs.declared.point.ReadField.{ReadField}
-use Rattle.setfile.specs.declared.point.OutputField.{OutputField}
-use Rattle.setfile.specs.declared.loader.Loading.{Loading}
-use Rattle.setfile.specs.Header.{headerOf, bodyOf, fitsTable}
-use Rattle.setfile.specs.Load.{goingOn, andThen, readField, readDone, readGiven, readAt, readsFrom, outputField, outputDone, outputGiven, outputAt, outputsFrom}
-use Rattle.setfile.specs.Write.{kindBytes, readBody, outputBody}
-use Rattle.setfile.proofs.HeaderLaws.{table-bounds}
+use Rattle.header.specs.declared.header.Header.{Header}
+use Rattle.header.specs.declared.header.Header.the-variants.{Refused as Stopped, Field}
+use Rattle.loader.specs.declared.point.Point.{Point}
+use Rattle.loader.specs.declared.point.Point.the-variants.{Refused as Denied, Good}
+use Rattle.loader.specs.declared.point.ReadField.{ReadField}
+use Rattle.loader.specs.declared.point.OutputField.{OutputField}
+use Rattle.loader.specs.declared.loader.Loading.{Loading}
+use Rattle.header.specs.Header.{headerOf, bodyOf, fitsTable}
+use Rattle.loader.specs.Load.{goingOn, andThen, readField, readDone, readGiven, readAt, readsFrom, outputField, outputDone, outputGiven, outputAt, outputsFrom}
+use Rattle.writer.specs.Write.{kindBytes, readBody, outputBody}
+use Rattle.header.proofs.HeaderLaws.{table-bounds}
 use Rattle.setfile.proofs.NamesBack.{name-bounds}
 use Rattle.setfile.proofs.PointsFit.{ReadFits, OutputFits, read-local, output-local}
 use Rattle.setfile.proofs.PointFields.{read-back, read-taken, output-back, output-taken}

@@ -12,17 +12,17 @@ use lib.ListN.{length, getD, take, drop, set}
 use borrow.Author.Tests.{eq-eqb}
 use Rattle.words.proofs.Bools.{or-left}
 use Rattle.scan.specs.declared.set.Set.{Set}
-use Rattle.setfile.specs.declared.header.Header.{Header}
-use Rattle.setfile.specs.declared.header.Header.the-variants.{Refused as Stopped, Field}
-use Rattle.setfile.specs.declared.point.Point.{Point}
-use Rattle.setfile.specs.declared.point.Point.the-variants.{Refused as Denied, Good}
-use Rattle.setfile.specs.declared.loader.Progress.the-variants.{At}
-use Rattle.setfile.specs.declared.loader.Loading.{Loading}
-use Rattle.setfile.specs.Bytes.{Bytes}
-use Rattle.setfile.specs.Header.{headerOf, bodyOf, fitsTable}
-use Rattle.setfile.specs.Load.{refusal, goingOn, andThen}
-use Rattle.setfile.specs.Write.{fieldOf, fieldsOf}
-use Rattle.setfile.proofs.HeaderLaws.{due-is}
+use Rattle.header.specs.declared.header.Header.{Header}
+use Rattle.header.specs.declared.header.Header.the-variants.{Refused as Stopped, Field}
+use Rattle.loader.specs.declared.point.Point.{Point}
+use Rattle.loader.specs.declared.point.Point.the-variants.{Refused as Denied, Good}
+use Rattle.loader.specs.declared.loader.Progress.the-variants.{At}
+use Rattle.loader.specs.declared.loader.Loading.{Loading}
+use Rattle.header.specs.Bytes.{Bytes}
+use Rattle.header.specs.Header.{headerOf, bodyOf, fitsTable}
+use Rattle.loader.specs.Load.{refusal, goingOn, andThen}
+use Rattle.writer.specs.Write.{fieldOf, fieldsOf}
+use Rattle.header.proofs.HeaderLaws.{due-is}
 use Rattle.setfile.proofs.Fields.{body-back, field-back, found}
 use Rattle.setfile.proofs.Runs.{Run, begun, Moved, Done, run-back, run-taken}
 

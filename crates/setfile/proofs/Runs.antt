@@ -11,9 +11,9 @@ use native.Mathlib.Omega.{arith}
 use lib.ListN.{length, getD, take, drop, set, replicate, length-set, length-replicate, getD-replicate}
 use lib.Seq.{getD-set-same, getD-set-other, take-suc-set, drop-cons, ext-getD}
 use Rattle.scan.specs.declared.set.Set.{Set}
-use Rattle.setfile.specs.declared.loader.Progress.the-variants.{At}
-use Rattle.setfile.specs.declared.loader.Loading.{Loading}
-use Rattle.setfile.specs.Write.{fieldOf, fieldsOf}
+use Rattle.loader.specs.declared.loader.Progress.the-variants.{At}
+use Rattle.loader.specs.declared.loader.Loading.{Loading}
+use Rattle.writer.specs.Write.{fieldOf, fieldsOf}
 use Rattle.setfile.proofs.Fields.{after-field}
 
 -- an array of M places of which those from i on are zero

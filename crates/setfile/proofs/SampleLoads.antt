@@ -4,14 +4,15 @@ use mathlib.Core.Path.{_≡_, refl}
 use Rattle.words.specs.Word.{odd, bit}
 use Rattle.words.specs.Loop.{all, first, firstFrom}
 use Rattle.scan.specs.Set.{zeroSet}
-use Rattle.scan.specs.Names.{nameByte, allNameBytes, nameRead, nameLength, nameBytes, sameName, readNamed, firstRead, outputNamed, firstOutput, isUsed}
+use Rattle.scan.specs.Names.{nameByte, allNameBytes, nameLength, nameBytes, sameName, readNamed, firstRead, outputNamed, firstOutput, isUsed}
+use Rattle.shape.specs.NameRead.{nameRead}
 use Rattle.scan.specs.Shape.{countTests}
 use Rattle.scan.specs.Samples.{P}
-use Rattle.setfile.specs.declared.loader.LoadAnswer.the-variants.{Loaded}
-use Rattle.setfile.specs.Header.{headerOf}
-use Rattle.setfile.specs.Literal.{withLiteral, literalsFrom}
-use Rattle.setfile.specs.Load.{countsAt, kindOf, readField, readAt, readsFrom, outputField, outputAt, outputsFrom, constraintAt, constraintsFrom, loadFrom, loadOf}
-use Rattle.setfile.specs.Write.{readLiteral, outputLiteral, joined, literalBody, fieldsOf, writeOf}
+use Rattle.loader.specs.declared.loader.LoadAnswer.the-variants.{Loaded}
+use Rattle.header.specs.Header.{headerOf}
+use Rattle.loader.specs.Literal.{withLiteral, literalsFrom}
+use Rattle.loader.specs.Load.{countsAt, kindOf, readField, readAt, readsFrom, outputField, outputAt, outputsFrom, constraintAt, constraintsFrom, loadFrom, loadOf}
+use Rattle.writer.specs.Write.{readLiteral, outputLiteral, joined, literalBody, fieldsOf, writeOf}
 use Rattle.setfile.specs.SampleFile.{fileP}
 
 -- The file loads to P.

@@ -13,17 +13,17 @@ use Rattle.scan.specs.declared.set.Constraint.{Constraint}
 use Rattle.scan.specs.declared.set.Set.{Set}
 use Rattle.scan.specs.Set.{zeroSet}
 use Rattle.scan.specs.Shape.{countTests, wellFormed}
-use Rattle.setfile.specs.declared.header.Header.{Header}
-use Rattle.setfile.specs.declared.header.Header.the-variants.{Refused as Stopped, Field}
-use Rattle.setfile.specs.declared.loader.Progress.{Progress}
-use Rattle.setfile.specs.declared.loader.Progress.the-variants.{At, Refused}
-use Rattle.setfile.specs.declared.loader.LoadAnswer.the-variants.{Loaded}
-use Rattle.setfile.specs.declared.loader.Loading.{Loading}
-use Rattle.setfile.specs.Bytes.{Bytes}
-use Rattle.setfile.specs.Header.{headerOf, bodyOf, fitsTable}
-use Rattle.setfile.specs.Load.{refusal, goingOn, thenFrom, andThen, withCounts, countsGiven, countsAt, readsFrom, outputsFrom, constraintsFrom, afterCounts, afterReads, afterOutputs, answerOf, loadFrom, loadOf}
-use Rattle.setfile.specs.Write.{fieldOf, fieldsOf, readBody, outputBody, literalBody, writeOf}
-use Rattle.setfile.proofs.HeaderLaws.{table-bounds, due-is}
+use Rattle.header.specs.declared.header.Header.{Header}
+use Rattle.header.specs.declared.header.Header.the-variants.{Refused as Stopped, Field}
+use Rattle.loader.specs.declared.loader.Progress.{Progress}
+use Rattle.loader.specs.declared.loader.Progress.the-variants.{At, Refused}
+use Rattle.loader.specs.declared.loader.LoadAnswer.the-variants.{Loaded}
+use Rattle.loader.specs.declared.loader.Loading.{Loading}
+use Rattle.header.specs.Bytes.{Bytes}
+use Rattle.header.specs.Header.{headerOf, bodyOf, fitsTable}
+use Rattle.loader.specs.Load.{refusal, goingOn, thenFrom, andThen, withCounts, countsGiven, countsAt, readsFrom, outputsFrom, constraintsFrom, afterCounts, afterReads, afterOutputs, answerOf, loadFrom, loadOf}
+use Rattle.writer.specs.Write.{fieldOf, fieldsOf, readBody, outputBody, literalBody, writeOf}
+use Rattle.header.proofs.HeaderLaws.{table-bounds, due-is}
 use Rattle.setfile.proofs.Fields.{two-bytes, found}
 use Rattle.setfile.proofs.Runs.{Done, run-taken}
 use Rattle.setfile.proofs.PointRuns.{points-taken}

@@ -22,11 +22,11 @@ use Rattle.scan.specs.Names.{nameByte, allNameBytes, nameBytes, nameOk}
 use Rattle.scan.specs.Shape.{isSensor, kindOk, wellFormed}
 use Rattle.scan.proofs.Formed.{Masks, rank-lt, counts, masks}
 use Rattle.scan.proofs.Points.{name-formed, points-formed}
-use Rattle.setfile.specs.Bytes.{Bytes}
-use Rattle.setfile.specs.Write.{fieldOf, kindBytes, readBody, outputBody, readLiteral, outputLiteral, joined, literalBody, fieldsOf, writeOf}
+use Rattle.header.specs.Bytes.{Bytes}
+use Rattle.writer.specs.Write.{fieldOf, kindBytes, readBody, outputBody, readLiteral, outputLiteral, joined, literalBody, fieldsOf, writeOf}
 use Rattle.setfile.proofs.Places.{byte, mask, by-four}
 use Rattle.setfile.proofs.Joins.{worth, told, literal}
-use Rattle.setfile.proofs.HeaderLaws.{table-bounds}
+use Rattle.header.proofs.HeaderLaws.{table-bounds}
 use Rattle.scan.proofs.Naming.{bytes-named}
 use Rattle.setfile.proofs.PointsFit.{read-fits, output-fits}
 use Rattle.setfile.proofs.PointKinds.{reads-give, outputs-give}

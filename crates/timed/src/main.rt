@@ -1,11 +1,11 @@
 // The program that is timed: it does one operation on a set file many times and prints a checksum of the answers. Standard input: a byte for the
 // operation, a four-byte count of times, a two-byte length and the file; for scans then a two-byte count and the scans, of six bytes each.
-use scan::ScanAnswer;
+use loader::LoadAnswer;
+use machine::ScanAnswer;
 use scan::Set;
 use scan::State;
-use setfile::LoadAnswer;
-use setfile::Written;
 use verdict::Verdict;
+use writer::Written;
 ghost use Prim.Native.Nat.{_<_};
 
 // The operations.
@@ -104,7 +104,7 @@ fn scan_often(start: State, times: u32, calls: &[u8]) -> u32 {
             if SCAN_BYTES <= calls.len() - i {
                 let sensor = four(calls[i], calls[i + 1], calls[i + 2], calls[i + 3]);
                 let request = two(calls[i + 4], calls[i + 5]);
-                let scanned = scan::scan(state, sensor, request);
+                let scanned = machine::scan(state, sensor, request);
                 let answer = scanned.answer;
                 let next = scanned.state;
                 sum = mix_scan(sum, answer);
@@ -142,7 +142,7 @@ fn scan_set(set: Set, times: u32, scratch: &mut [u8]) -> u32 {
 }
 
 fn mix_loaded(sum: u32, file: &[u8], turn: u32) -> u32 {
-    let loaded = setfile::load(file);
+    let loaded = loader::load(file);
     let answer = loaded.answer;
     let set = loaded.set;
     match answer {
@@ -174,7 +174,7 @@ fn write_often(set: Set, times: u32, buf: &mut [u8]) -> u32 {
     let mut sum: u32 = 0;
     let mut left = times;
     while 0 < left {
-        sum = mix_written(sum, setfile::write(set, &mut *buf));
+        sum = mix_written(sum, writer::write(set, &mut *buf));
         sum = mix_byte(sum, &*buf, (left % 4096) as usize);
         left = left - 1;
     }
@@ -183,7 +183,7 @@ fn write_often(set: Set, times: u32, buf: &mut [u8]) -> u32 {
 
 fn do_often(operation: u8, times: u32, file: &[u8]) -> u32 {
     let mut lent = io::buffer();
-    let loaded = setfile::load(file);
+    let loaded = loader::load(file);
     let set = loaded.set;
     if operation == JUDGE {
         return judge_often(set, times, &mut lent);

@@ -4,7 +4,7 @@ use super::marks::settle;
 use scan::Set;
 use scan::build;
 use scan::start_vector;
-use scan::well_formed;
+use shape::well_formed;
 ghost use mathlib.Core.Path.{_≡_};
 ghost use mathlib.Core.Bool.{true};
 ghost use Prim.Native.Nat.{_^_};

@@ -5,7 +5,7 @@ use lib.ListN.{length}
 use lib.Seq.{length-take-le}
 use denote.Ref.{now}
 use Rattle.scan.proofs.Shapes.{mapped-long}
-use Rattle.setfile.specs.Write.{putAt}
+use Rattle.writer.specs.Write.{putAt}
 use Rattle.line.specs.Line.{lineBytes}
 use Rattle.line.proofs.LineLaws.{too-short, printed}
 use borrow.Author.Needs.{needs}

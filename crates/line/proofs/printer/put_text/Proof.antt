@@ -8,8 +8,8 @@ use lib.ListN.{length, getD, take, set}
 use lib.Seq.{length-take-le}
 use denote.Ref.{now}
 use Rattle.scan.proofs.Shapes.{mapped-long}
-use Rattle.setfile.specs.Write.{putAt}
-use Rattle.setfile.proofs.WriteLaws.{put-nothing, put-kept}
+use Rattle.writer.specs.Write.{putAt}
+use Rattle.writer.proofs.WriteLaws.{put-nothing, put-kept}
 use Rattle.line.proofs.LineLaws.{put-front}
 use Rattle.line.proofs.printer.put_text.Statement.{statement}
 use Rattle.line.proofs.printer.put_text.Tie as tie

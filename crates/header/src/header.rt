@@ -1,0 +1,98 @@
+// A field's header: one-byte tag, two-byte length, high byte first.
+use super::numbers::BAD_LENGTH;
+use super::numbers::MANY_CONSTRAINTS;
+use super::numbers::PAST_END;
+use super::numbers::TAG_CONSTRAINT;
+use super::numbers::TAG_END;
+use super::numbers::TAG_NOT_DUE;
+ghost use mathlib.Core.Path.{_≡_};
+ghost use lib.ListN.{drop};
+ghost use Rattle.header.specs.Header.{fitsTable, isDue, headerOf};
+
+// By tag: the shortest body, the longest body, and what a body's length is a multiple of.
+const TAGS: u8 = 6;
+
+const SHORTEST: [u8; 6] = [0, 2, 3, 1, 2, 0];
+
+const LONGEST: [u8; 6] = [0, 2, 10, 8, 48, 0];
+
+const STEP: [u8; 6] = [1, 1, 1, 1, 2, 1];
+
+// The most constraints of a set.
+const MOST_CONSTRAINTS: usize = 64;
+
+// A refusal's number; or the tag and the length of the body.
+pub enum Header {
+    Refused(u8),
+    Field(u8, usize),
+}
+
+fn wide(x: u8) -> usize
+    ensures { λ r. ⌜ r ≡ x ⌝ }
+{
+    x as usize
+}
+
+fn fits_table(tag: u8, len: usize) -> bool
+    ensures { λ r. ⌜ r ≡ fitsTable tag len ⌝ }
+{
+    if TAGS <= tag {
+        return false;
+    }
+    let t = tag as usize;
+    let shortest = wide(SHORTEST[t]);
+    let longest = wide(LONGEST[t]);
+    let step = wide(STEP[t]);
+    if len < shortest {
+        return false;
+    }
+    if longest < len {
+        return false;
+    }
+    len % step == 0
+}
+
+// Where constraints are due, the end is due too.
+fn is_due(due: u8, tag: u8) -> bool
+    ensures { λ r. ⌜ r ≡ isDue due tag ⌝ }
+{
+    if tag == due {
+        return true;
+    }
+    if due == TAG_CONSTRAINT {
+        return tag == TAG_END;
+    }
+    false
+}
+
+// The header of the field at `at`, where the tag `due` is due and m constraints have been loaded.
+pub fn header_at(s: &[u8], at: usize, due: u8, m: usize) -> Header
+    ensures { λ r. ⌜ r ≡ headerOf (drop at (now (s .entry))) due m ⌝ }
+{
+    if s.len() < 3 {
+        return Header::Refused(PAST_END);
+    }
+    let last = s.len() - 3;
+    if last < at {
+        return Header::Refused(PAST_END);
+    }
+    let tag = s[at];
+    let high = wide(s[at + 1]);
+    let low = wide(s[at + 2]);
+    let len = high * 256 + low;
+    if last - at < len {
+        return Header::Refused(PAST_END);
+    }
+    if !is_due(due, tag) {
+        return Header::Refused(TAG_NOT_DUE);
+    }
+    if tag == TAG_CONSTRAINT {
+        if MOST_CONSTRAINTS <= m {
+            return Header::Refused(MANY_CONSTRAINTS);
+        }
+    }
+    if !fits_table(tag, len) {
+        return Header::Refused(BAD_LENGTH);
+    }
+    Header::Field(tag, len)
+}

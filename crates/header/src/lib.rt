@@ -1,0 +1,25 @@
+// The fields of a set file, front to back: tags, numbers of refusals, and a field's header.
+mod numbers; // numbers of refusals, and tags
+mod header; // a field's header
+mod reader; // a file and a place in it
+
+pub use header::Header;
+pub use numbers::BAD_COUNTS;
+pub use numbers::BAD_KIND;
+pub use numbers::BAD_LENGTH;
+pub use numbers::BAD_LITERAL;
+pub use numbers::BAD_NAME_BYTE;
+pub use numbers::BYTES_FOLLOW;
+pub use numbers::MANY_CONSTRAINTS;
+pub use numbers::NAME_USED;
+pub use numbers::NO_OUTPUT;
+pub use numbers::NOT_RISING;
+pub use numbers::PAST_END;
+pub use numbers::TAG_CONSTRAINT;
+pub use numbers::TAG_COUNTS;
+pub use numbers::TAG_END;
+pub use numbers::TAG_NOT_DUE;
+pub use numbers::TAG_OUTPUT;
+pub use numbers::TAG_READ;
+pub use reader::FrontField;
+pub use reader::front_at;

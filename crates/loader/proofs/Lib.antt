@@ -1,0 +1,5 @@
+pub mod LiteralLaws
+pub mod LoadLaws
+pub mod Columns
+pub mod Keeps
+pub mod Refusals

@@ -1,0 +1,4 @@
+pub mod Literal
+pub mod Load
+pub mod Column
+pub mod LoadTold

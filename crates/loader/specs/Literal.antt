@@ -1,0 +1,106 @@
+-- Literals, two bytes each. In the first, bit 7 marks a negated literal, bit 6 an output, bits 5 and 4 are zero, and the low four bits are the
+-- point's number; the second is the rank. Tests 9 and 10 of each literal, front to back, then 11.
+-- Assumes nothing.
+use Prim.Native.Nat.{ℕ, _+_, _%_, _/_, _^_}
+use mathlib.Core.Bool.{Bool, true, false, cond, not, _&&_}
+use mathlib.Core.List.{List, [], _∷_}
+use lib.Dec.{ltb, leb, eqb}
+use lib.ListN.{set}
+use lib.Bits.{bitOr}
+use Rattle.scan.specs.declared.set.Constraint.{Constraint}
+use Rattle.scan.specs.Set.{zeroConstraint}
+use Rattle.loader.specs.declared.literal.Taken.the-variants.{Refused, Next}
+use Rattle.loader.specs.declared.literal.Literals.{Literals}
+use Rattle.loader.specs.declared.literal.Masks.{Masks}
+
+-- bit 7
+abbrev pub isNegated : ℕ → Bool
+isNegated first = eqb (first / 2 ^ 7) 1
+
+-- bit 6
+abbrev pub isOutput : ℕ → Bool
+isOutput first = eqb (first / 2 ^ 6 % 2) 1
+
+-- bits 5 and 4
+abbrev pub spare : ℕ → ℕ
+spare first = first / 2 ^ 4 % 4
+
+-- the low four bits
+abbrev pub number : ℕ → ℕ
+number first = first % 16
+
+-- a literal's place in the order: read points by number, then outputs by number, signs ignored
+abbrev pub place : ℕ → ℕ
+place first = cond (isOutput first) (16 + number first) (number first)
+
+-- not 9: bits 5 and 4 zero, the number of one of r read points or n outputs, no rank on a read point
+abbrev pub isLiteral : ℕ → ℕ → ℕ → ℕ → Bool
+isLiteral first rank r n =
+    eqb (spare first) 0 && cond (isOutput first) (ltb (number first) n) (eqb rank 0 && ltb (number first) r)
+
+-- a mask with bit k set
+abbrev pub withBit : ℕ → ℕ → ℕ
+withBit mask k = bitOr mask (2 ^ k)
+
+-- a constraint with a literal more
+unfoldable pub withLiteral : Constraint → ℕ → ℕ → Constraint
+withLiteral c first rank =
+    cond (isOutput first)
+    (cond (isNegated first)
+    (record { «read_plain» = c .«read_plain»; «read_negated» = c .«read_negated»; «out_plain» = c .«out_plain»; «out_negated» = withBit (c .«out_negated») (number first); ranks = set (c .ranks) (number first) rank })
+    (record { «read_plain» = c .«read_plain»; «read_negated» = c .«read_negated»; «out_plain» = withBit (c .«out_plain») (number first); «out_negated» = c .«out_negated»; ranks = set (c .ranks) (number first) rank }))
+    (cond (isNegated first)
+    (record { «read_plain» = c .«read_plain»; «read_negated» = withBit (c .«read_negated») (number first); «out_plain» = c .«out_plain»; «out_negated» = c .«out_negated»; ranks = c .ranks })
+    (record { «read_plain» = withBit (c .«read_plain») (number first); «read_negated» = c .«read_negated»; «out_plain» = c .«out_plain»; «out_negated» = c .«out_negated»; ranks = c .ranks }))
+
+-- a refusal, beside a constraint of zeros
+abbrev pub refusedLiterals : ℕ → Literals
+refusedLiterals number = record { taken = Refused number; made = zeroConstraint }
+
+-- after the last literal: 11 where no output literal was taken; an output's place is 16 or more, so that the next one's is above 16
+abbrev pub lastLiteral : ℕ → Constraint → Literals
+lastLiteral next c = cond (leb next 16) (refusedLiterals 11) (record { taken = Next next; made = c })
+
+-- 9, else 10, else what the rest of the body gives
+abbrev pub literalThen : Bool → Bool → Literals → Literals
+literalThen false rises rest = refusedLiterals 9
+literalThen true false rest = refusedLiterals 10
+literalThen true true rest = rest
+
+-- the literals of a body, added to a constraint; the next one's place must be at least `next`. A body of a loaded field has an even length,
+-- so that the case of one byte does not come
+unfoldable pub literalsFrom : ℕ → ℕ → ℕ → Constraint → List ℕ → Literals
+literalsFrom r n next c [] = lastLiteral next c
+literalsFrom r n next c (first ∷ []) = refusedLiterals 9
+literalsFrom r n next c (first ∷ rank ∷ rest) =
+    let others = literalsFrom r n (place first + 1) (withLiteral c first rank) rest in
+    literalThen (isLiteral first rank r n) (leb next (place first)) others
+
+-- the constraint of a body, for a set of r read points and n outputs
+abbrev pub literalsOf : ℕ → ℕ → List ℕ → Literals
+literalsOf r n body = literalsFrom r n 0 zeroConstraint body
+
+-- ---- the code's way: the masks of the literals taken so far apart from their ranks
+
+-- no literal yet
+abbrev pub noMasks : Masks
+noMasks = record { «read_plain» = 0; «read_negated» = 0; «out_plain» = 0; «out_negated» = 0 }
+
+-- a literal of point k more: its bit in the one mask that its kind names
+abbrev pub inMasks : Masks → Bool → Bool → ℕ → Masks
+inMasks m out negated k = record {
+  «read_plain» = bitOr (m .«read_plain») (cond (not out && not negated) (2 ^ k) 0);
+  «read_negated» = bitOr (m .«read_negated») (cond (not out && negated) (2 ^ k) 0);
+  «out_plain» = bitOr (m .«out_plain») (cond (out && not negated) (2 ^ k) 0);
+  «out_negated» = bitOr (m .«out_negated») (cond (out && negated) (2 ^ k) 0);
+}
+
+-- the constraint of masks and ranks
+abbrev pub ofMasks : Masks → List ℕ → Constraint
+ofMasks m ranks = record {
+  «read_plain» = m .«read_plain»;
+  «read_negated» = m .«read_negated»;
+  «out_plain» = m .«out_plain»;
+  «out_negated» = m .«out_negated»;
+  ranks = ranks;
+}

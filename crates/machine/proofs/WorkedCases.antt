@@ -1,0 +1,26 @@
+-- The worked cases hold, by computation.
+-- Assumes nothing.
+use mathlib.Core.Path.{refl}
+use lib.Count.{onesIn}
+use Rattle.words.specs.Word.{odd, bit, without, meets, popcount}
+use Rattle.words.specs.Loop.{gather, place, word, some, all, firstFrom, first}
+use Rattle.scan.specs.Set.{zeroSet, constraint, kind}
+use Rattle.scan.specs.Names.{nameByte, allNameBytes, nameLength, placeOk, nameOk, nameZero, sameName, readNamed, firstRead, outputNamed, firstOutput}
+use Rattle.scan.specs.Shape.{countTests, lengthTests, kindOk, readOk, readZero, readPlace, outputOk, outputPlace, rankOk, constraintTests, constraintZero, constraintPlace, setTests, wellFormed}
+use Rattle.shape.specs.Finding.{findPadded, findOf}
+use Rattle.scan.specs.Constraint.{readsTrue, outsTrue, isTrue, simple, combined, trueAt, safe}
+use Rattle.scan.specs.Holds.{holding, toZero, toOne, F0, F1, unheldBy, unheld, unheldCount, startFrom, startVector}
+use Rattle.scan.specs.Pass.{lowest, hasRank, yielding, yields, fires, flips, pass}
+use Rattle.scan.specs.Walk.{walkBy, walk}
+use Rattle.machine.specs.Past.{readingAt, readWord}
+use Rattle.machine.specs.Machine.{stateOk, isPast, sensorOk, requestOk, scanOf}
+use Rattle.machine.specs.History.{run}
+use Rattle.machine.specs.Worked.{AllAnswered, scanCases, findCases}
+
+pub scans-worked : AllAnswered scanCases
+unfolding onesIn odd bit without meets popcount gather place word some all firstFrom first zeroSet constraint kind nameByte allNameBytes nameLength placeOk nameOk nameZero sameName readNamed firstRead outputNamed firstOutput countTests lengthTests kindOk readOk readZero readPlace outputOk outputPlace rankOk constraintTests constraintZero constraintPlace setTests wellFormed readsTrue outsTrue isTrue simple combined trueAt safe holding toZero toOne F0 F1 unheldBy unheld unheldCount startFrom startVector lowest hasRank yielding yields fires flips pass walkBy walk readingAt readWord stateOk isPast sensorOk requestOk scanOf run
+scans-worked = refl
+
+pub finds-worked : AllAnswered findCases
+unfolding odd bit some all firstFrom first zeroSet constraint nameByte allNameBytes nameLength placeOk nameOk nameZero sameName readNamed firstRead outputNamed firstOutput countTests lengthTests kindOk readOk readZero readPlace outputOk outputPlace rankOk constraintTests constraintZero constraintPlace setTests wellFormed findPadded findOf
+finds-worked = refl

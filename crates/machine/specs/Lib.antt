@@ -1,0 +1,5 @@
+pub mod Past
+pub mod Machine
+pub mod Told
+pub mod History
+pub mod Worked

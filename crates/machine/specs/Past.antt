@@ -1,0 +1,24 @@
+-- The read word of a scan.
+-- Assumes nothing.
+use Prim.Native.Nat.{ℕ}
+use mathlib.Core.Bool.{Bool}
+use Rattle.words.specs.Word.{bit}
+use Rattle.words.specs.Loop.{word}
+use Rattle.scan.specs.declared.set.Kind.{Kind}
+use Rattle.scan.specs.declared.set.Kind.the-variants.{Sensor, PastOutput, PastSensor}
+use Rattle.scan.specs.declared.set.Set.{Set}
+use Rattle.scan.specs.Set.{kind}
+
+-- what a read point of this kind, at bit k, reads: the sensor word, or the bit of a past that its index names
+abbrev pub reading : ℕ → ℕ → ℕ → ℕ → Kind → Bool
+reading output sensor now k Sensor = bit k now
+reading output sensor now k (PastOutput i) = bit i output
+reading output sensor now k (PastSensor i) = bit i sensor
+
+-- read point k of the set
+unfoldable pub readingAt : Set → ℕ → ℕ → ℕ → ℕ → Bool
+readingAt s output sensor now k = reading output sensor now k (kind s k)
+
+-- the sensor word `now`, with past points filled from the past output word and the past sensor word
+unfoldable pub readWord : Set → ℕ → ℕ → ℕ → ℕ
+readWord s output sensor now = word (s .r) (readingAt s output sensor now)

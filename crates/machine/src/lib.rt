@@ -1,0 +1,7 @@
+// The scan machine: what happens in one PLC scan, and in a list of them.
+mod past; // the read word of a scan
+mod machine; // one scan
+
+pub use machine::ScanAnswer;
+pub use machine::Scanned;
+pub use machine::scan;

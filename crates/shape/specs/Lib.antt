@@ -1,0 +1,3 @@
+pub mod NameRead
+pub mod Finding
+pub mod FoundTold

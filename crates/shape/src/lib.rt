@@ -1,0 +1,12 @@
+// The points of a set: their names, when the set is well formed, and finding a point by its name.
+mod names; // names: padding, comparing, the first point of a name
+mod shape; // when a set is well formed
+mod finding; // finding a point by its name
+
+pub use finding::Found;
+pub use finding::find;
+pub use names::NameRead;
+pub use names::is_used;
+pub use names::read_name;
+pub use shape::is_sensor;
+pub use shape::well_formed;

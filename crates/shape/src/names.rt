@@ -1,0 +1,253 @@
+// Names of points: eight byte places by value, compared byte by byte.
+use scan::MOST_OUTPUTS;
+use scan::MOST_READS;
+use scan::NAME_PLACES;
+use scan::OutputPoint;
+use scan::ReadPoint;
+use scan::Set;
+use scan::both;
+use scan::either;
+use scan::least;
+ghost use mathlib.Core.Path.{_≡_};
+ghost use mathlib.Core.Bool.{false};
+ghost use Prim.Native.Nat.{_≤_, min};
+ghost use lib.ListN.{length};
+ghost use Rattle.shape.specs.declared.names.NameRead.{NameRead};
+ghost use Rattle.scan.specs.Set.{zeroName};
+ghost use Rattle.scan.specs.Names.{nameByte, allNameBytes, padded, nextOk, nameOk, nameZero, sameName, firstRead, firstOutput, isUsed, firstName, ReadNames, OutputNames};
+ghost use Rattle.shape.specs.NameRead.{nameRead};
+
+// Whether a name may have the byte.
+pub fn is_name_byte(b: u8) -> bool
+    ensures { λ r. ⌜ r ≡ nameByte b ⌝ }
+{
+    both(0x21 <= b, b <= 0x7E)
+}
+
+// Whether a name may have each of the bytes.
+pub fn are_name_bytes(bytes: &[u8]) -> bool
+    ensures { λ r. ⌜ r ≡ allNameBytes (now (bytes .entry)) ⌝ }
+{
+    let mut ok = true;
+    let mut k: usize = 0;
+    while k < bytes.len() {
+        ok = both(ok, is_name_byte(bytes[k]));
+        k = k + 1;
+    }
+    ok
+}
+
+// The bytes with zeros up to eight places.
+pub fn pad(bytes: &[u8]) -> [u8; NAME_PLACES]
+    requires { ⌜ length (now bytes) ≤ 8 ⌝ }
+    ensures { λ r. ⌜ r ≡ padded (now (bytes .entry)) ⌝ }
+{
+    let mut name = [0u8; NAME_PLACES];
+    let mut k: usize = 0;
+    while k < bytes.len() {
+        name[k] = bytes[k];
+        k = k + 1;
+    }
+    name
+}
+
+// The eight places of a name, or that bytes are none, beside zeros.
+pub struct NameRead {
+    pub good: bool,
+    pub name: [u8; NAME_PLACES],
+}
+
+fn no_name() -> NameRead
+    ensures { λ r. ⌜ r ≡ record { good = false; name = zeroName } ⌝ }
+{
+    let name = [0u8; NAME_PLACES];
+    NameRead { good: false, name }
+}
+
+// The name that the bytes spell.
+pub fn read_name(bytes: &[u8]) -> NameRead
+    ensures { λ r. ⌜ r ≡ nameRead (now (bytes .entry)) ⌝ }
+{
+    if bytes.len() < 1 {
+        return no_name();
+    }
+    if NAME_PLACES < bytes.len() {
+        return no_name();
+    }
+    if !are_name_bytes(bytes) {
+        return no_name();
+    }
+    let name = pad(bytes);
+    NameRead { good: true, name }
+}
+
+// A zero, or a name byte behind a byte that is no zero.
+fn is_next_ok(before: u8, b: u8) -> bool
+    ensures { λ r. ⌜ r ≡ nextOk before b ⌝ }
+{
+    either(b == 0, both(is_name_byte(b), before != 0))
+}
+
+// Whether the places hold 1 to 8 name bytes and then zeros.
+pub fn is_name(name: [u8; NAME_PLACES]) -> bool
+    ensures { λ r. ⌜ r ≡ nameOk name ⌝ }
+{
+    let mut before = name[0];
+    let mut ok = before != 0;
+    let mut k: usize = 0;
+    while k < NAME_PLACES {
+        let b = name[k];
+        ok = both(ok, is_next_ok(before, b));
+        before = b;
+        k = k + 1;
+    }
+    ok
+}
+
+// Whether all places are zero.
+pub fn is_zero_name(name: [u8; NAME_PLACES]) -> bool
+    ensures { λ r. ⌜ r ≡ nameZero name ⌝ }
+{
+    let mut ok = true;
+    let mut k: usize = 0;
+    while k < NAME_PLACES {
+        ok = both(ok, name[k] == 0);
+        k = k + 1;
+    }
+    ok
+}
+
+fn is_same_name(a: [u8; NAME_PLACES], b: [u8; NAME_PLACES]) -> bool
+    ensures { λ r. ⌜ r ≡ sameName a b ⌝ }
+{
+    let mut same = true;
+    let mut k: usize = 0;
+    while k < NAME_PLACES {
+        same = both(same, a[k] == b[k]);
+        k = k + 1;
+    }
+    same
+}
+
+// The first of the first i read points that has the name, or i.
+pub fn first_read(reads: [ReadPoint; MOST_READS], i: usize, name: [u8; NAME_PLACES]) -> usize
+    requires { ⌜ i ≤ 16 ⌝ }
+    ensures { λ r. ⌜ r ≡ firstRead reads i name ⌝ }
+{
+    let mut k: usize = 0;
+    while k < i {
+        let p = reads[k];
+        let own = p.name;
+        if is_same_name(own, name) {
+            return k;
+        }
+        k = k + 1;
+    }
+    i
+}
+
+// The first of the first j outputs that has the name, or j.
+pub fn first_output(
+    outputs: [OutputPoint; MOST_OUTPUTS],
+    j: usize,
+    name: [u8; NAME_PLACES],
+) -> usize
+    requires { ⌜ j ≤ 12 ⌝ }
+    ensures { λ r. ⌜ r ≡ firstOutput outputs j name ⌝ }
+{
+    let mut k: usize = 0;
+    while k < j {
+        let p = outputs[k];
+        let own = p.name;
+        if is_same_name(own, name) {
+            return k;
+        }
+        k = k + 1;
+    }
+    j
+}
+
+// The names of the read points, for functions to which they are lent.
+pub fn read_names(reads: [ReadPoint; MOST_READS]) -> [[u8; NAME_PLACES]; MOST_READS]
+    ensures { λ r. ⌜ ReadNames r reads ⌝ }
+{
+    let none = [0u8; NAME_PLACES];
+    let mut names = [none; MOST_READS];
+    let mut k: usize = 0;
+    while k < MOST_READS {
+        let p = reads[k];
+        let name = p.name;
+        names[k] = name;
+        k = k + 1;
+    }
+    names
+}
+
+// The names of the outputs.
+pub fn output_names(outputs: [OutputPoint; MOST_OUTPUTS]) -> [[u8; NAME_PLACES]; MOST_OUTPUTS]
+    ensures { λ r. ⌜ OutputNames r outputs ⌝ }
+{
+    let none = [0u8; NAME_PLACES];
+    let mut names = [none; MOST_OUTPUTS];
+    let mut k: usize = 0;
+    while k < MOST_OUTPUTS {
+        let p = outputs[k];
+        let name = p.name;
+        names[k] = name;
+        k = k + 1;
+    }
+    names
+}
+
+// The first of the first i names that is the name, or i.
+pub fn first_of_reads(
+    names: &[[u8; NAME_PLACES]; MOST_READS],
+    i: usize,
+    name: [u8; NAME_PLACES],
+) -> usize
+    requires { ⌜ i ≤ 16 ⌝ }
+    ensures { λ r. ⌜ r ≡ firstName (now (names .entry)) i name ⌝ }
+{
+    let mut k: usize = 0;
+    while k < i {
+        let own = names[k];
+        if is_same_name(own, name) {
+            return k;
+        }
+        k = k + 1;
+    }
+    i
+}
+
+pub fn first_of_outputs(
+    names: &[[u8; NAME_PLACES]; MOST_OUTPUTS],
+    i: usize,
+    name: [u8; NAME_PLACES],
+) -> usize
+    requires { ⌜ i ≤ 12 ⌝ }
+    ensures { λ r. ⌜ r ≡ firstName (now (names .entry)) i name ⌝ }
+{
+    let mut k: usize = 0;
+    while k < i {
+        let own = names[k];
+        if is_same_name(own, name) {
+            return k;
+        }
+        k = k + 1;
+    }
+    i
+}
+
+// Whether one of the first i read points or of the first j outputs of the set has the name.
+pub fn is_used(set: Set, i: usize, j: usize, name: [u8; NAME_PLACES]) -> bool
+    ensures { λ r. ⌜ r ≡ isUsed (set .reads) (min i 16) (set .outputs) (min j 12) name ⌝ }
+{
+    let reads = set.reads;
+    let outputs = set.outputs;
+    let a = least(i, MOST_READS);
+    let b = least(j, MOST_OUTPUTS);
+    either(
+        first_read(reads, a, name) < a,
+        first_output(outputs, b, name) < b,
+    )
+}

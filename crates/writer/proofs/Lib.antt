@@ -1,0 +1,2 @@
+pub mod LiteralBytes
+pub mod WriteLaws

@@ -1,0 +1,39 @@
+-- `writer::writer::file_length` meets its contract: the lengths of the parts, added up. Assumes nothing.
+use native.Mathlib.Omega.{arith}
+use Rattle.writer.proofs.WriteLaws.{file-long}
+use borrow.Author.Needs.{needs}
+use Rattle.writer.proofs.writer.file_length.Statement.{statement}
+use Rattle.writer.proofs.writer.file_length.Tie as tie
+
+reads-length-requires : tie.Need-reads-length-requires
+reads-length-requires c κs = search needs
+
+add-result : tie.Need-add-result
+add-result c = search needs
+
+outputs-length-requires : tie.Need-outputs-length-requires
+outputs-length-requires c κs = search needs
+
+add-result-2 : tie.Need-add-result-2
+add-result-2 c = search needs
+
+constraints-length-requires : tie.Need-constraints-length-requires
+constraints-length-requires c κs = search needs
+
+add-result-3 : tie.Need-add-result-3
+add-result-3 c = search needs
+
+returns : tie.Need-returns
+returns c = omega (arith, file-long (c .before .before .before .args .set))
+
+pub file-length-spec : {M : Type 1} → statement M
+file-length-spec =
+    tie.close
+    (tie.spec
+    reads-length-requires
+    add-result
+    outputs-length-requires
+    add-result-2
+    constraints-length-requires
+    add-result-3
+    returns)

@@ -1,0 +1,110 @@
+-- Writing: the file of a set, the answer, and the buffer at exit.
+-- Assumes nothing.
+use Prim.Native.Nat.{ℕ, zero, suc, _+_, _/_, _%_}
+use mathlib.Core.Path.{_≡_}
+use mathlib.Core.Bool.{cond, not, _&&_}
+use mathlib.Core.List.{List, [], _∷_, _++_}
+use lib.Dec.{leb, ltb}
+use lib.ListN.{length, take, drop}
+use Rattle.words.specs.Word.{bit}
+use Rattle.scan.specs.declared.set.Kind.{Kind}
+use Rattle.scan.specs.declared.set.Kind.the-variants.{Sensor, PastOutput, PastSensor}
+use Rattle.scan.specs.declared.set.ReadPoint.{ReadPoint}
+use Rattle.scan.specs.declared.set.OutputPoint.{OutputPoint}
+use Rattle.scan.specs.declared.set.Constraint.{Constraint}
+use Rattle.scan.specs.declared.set.Set.{Set}
+use Rattle.scan.specs.Set.{mostReads, mostOutputs, rank}
+use Rattle.scan.specs.Names.{nameBytes}
+use Rattle.scan.specs.Shape.{wellFormed}
+use Rattle.writer.specs.declared.writer.Written.{Written}
+use Rattle.writer.specs.declared.writer.Written.the-variants.{Wrote, BadSet, Short}
+
+-- ---- the file
+
+-- a field: one-byte tag, two-byte length (high byte first), body
+abbrev pub fieldOf : ℕ → List ℕ → List ℕ
+fieldOf tag body = tag ∷ length body / 256 ∷ length body % 256 ∷ body
+
+-- kind and index
+abbrev pub kindBytes : Kind → List ℕ
+kindBytes Sensor = 0 ∷ 0 ∷ []
+kindBytes (PastOutput k) = 1 ∷ k ∷ []
+kindBytes (PastSensor k) = 2 ∷ k ∷ []
+
+-- the body of a read point
+abbrev pub readBody : ReadPoint → List ℕ
+readBody p = kindBytes (p .kind) ++ nameBytes (p .name)
+
+-- the body of an output
+abbrev pub outputBody : OutputPoint → List ℕ
+outputBody p = nameBytes (p .name)
+
+-- the literal of read point k, if the constraint has one
+unfoldable pub readLiteral : Constraint → ℕ → List ℕ
+readLiteral c k =
+    cond (bit k (c .«read_plain»)) (k ∷ 0 ∷ []) (cond (bit k (c .«read_negated»)) ((0x80 + k) ∷ 0 ∷ []) [])
+
+-- the literal of output k, if the constraint has one
+unfoldable pub outputLiteral : Constraint → ℕ → List ℕ
+outputLiteral c k =
+    cond (bit k (c .«out_plain»)) ((0x40 + k) ∷ rank c k ∷ []) (cond (bit k (c .«out_negated»)) ((0xC0 + k) ∷ rank c k ∷ []) [])
+
+-- what f gives for 0, 1 .. n - 1, one after the other
+unfoldable pub joined : ℕ → (ℕ → List ℕ) → List ℕ
+joined zero f = []
+joined (suc n) f = joined n f ++ f n
+
+-- the body of a constraint: its read literals by number, then its output literals by number
+unfoldable pub literalBody : Constraint → List ℕ
+literalBody c = joined mostReads (readLiteral c) ++ joined mostOutputs (outputLiteral c)
+
+-- the fields of a list's elements, one after the other
+unfoldable pub fieldsOf : {A : Type 0} → ℕ → (A → List ℕ) → List A → List ℕ
+fieldsOf tag body [] = []
+fieldsOf tag body (p ∷ ps) = fieldOf tag (body p) ++ fieldsOf tag body ps
+
+-- one 0x01, r of 0x02, n of 0x03, m of 0x04, one 0x05
+unfoldable pub writeOf : Set → List ℕ
+writeOf s =
+    fieldOf 0x01 (s .r ∷ s .n ∷ [])
+    ++ fieldsOf 0x02 readBody (take (s .r) (s .reads))
+    ++ fieldsOf 0x03 outputBody (take (s .n) (s .outputs))
+    ++ fieldsOf 0x04 literalBody (take (s .m) (s .constraints))
+    ++ fieldOf 0x05 []
+
+-- ---- writing it into a buffer
+
+-- 20; 24 with the length needed where the buffer has fewer bytes; or the length
+unfoldable pub writeAnswer : Set → ℕ → Written
+writeAnswer s room =
+    let needed = length (writeOf s) in
+    cond (not (wellFormed s)) BadSet
+    (cond (ltb room needed) (Short needed) (Wrote needed))
+
+-- the file at the front and later bytes as they were; on a refusal the buffer as it was
+unfoldable pub bufferAfter : Set → List ℕ → List ℕ
+bufferAfter s buf =
+    let file = writeOf s in
+    cond (wellFormed s && leb (length file) (length buf)) (file ++ drop (length file) buf) buf
+
+-- ---- the code's way: parts of the file, and a buffer with bytes put into it
+
+-- the fields of a set's read points
+abbrev pub readFields : Set → List ℕ
+readFields s = fieldsOf 0x02 readBody (take (s .r) (s .reads))
+
+-- the fields of its outputs
+abbrev pub outputFields : Set → List ℕ
+outputFields s = fieldsOf 0x03 outputBody (take (s .n) (s .outputs))
+
+-- the fields of its constraints
+abbrev pub constraintFields : Set → List ℕ
+constraintFields s = fieldsOf 0x04 literalBody (take (s .m) (s .constraints))
+
+-- the buffer with bytes put at a place
+abbrev pub putAt : List ℕ → ℕ → List ℕ → List ℕ
+putAt buf at bytes = take at buf ++ (bytes ++ drop (at + length bytes) buf)
+
+-- bytes were put at a place: the buffer after that, and the place behind them
+abbrev pub Put : List ℕ → ℕ → List ℕ → List ℕ → ℕ → Type 0
+Put buf at bytes after next = (after ≡ putAt buf at bytes) × (next ≡ at + length bytes)

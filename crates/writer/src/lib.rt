@@ -1,0 +1,6 @@
+// Writing a set file.
+mod field; // one field into a lent buffer
+mod writer; // the whole file into a lent buffer
+
+pub use writer::Written;
+pub use writer::write;

@@ -1,0 +1,157 @@
+// Writing: the length of the file is counted first, and then each field is put into the lent buffer.
+use super::field::literals_length;
+use super::field::name_length;
+use super::field::put_constraint;
+use super::field::put_counts;
+use super::field::put_header;
+use super::field::put_output;
+use super::field::put_read;
+use header::TAG_END;
+use scan::Set;
+use shape::well_formed;
+ghost use mathlib.Core.Path.{_≡_};
+ghost use mathlib.Core.Bool.{true};
+ghost use Prim.Native.Nat.{_+_, _≤_};
+ghost use lib.ListN.{length};
+ghost use Rattle.scan.specs.Shape.{wellFormed};
+ghost use Rattle.writer.specs.Write.{writeOf, writeAnswer, bufferAfter, readFields, outputFields, constraintFields, putAt, Put};
+
+// The length of the file; or that the set is not well formed; or the length needed, where the buffer is shorter.
+pub enum Written {
+    Wrote(usize),
+    BadSet,
+    Short(usize),
+}
+
+// The file of the set at the front of the buffer, later bytes untouched; on a refusal the buffer is untouched.
+pub fn write(set: Set, buf: &mut [u8]) -> Written
+    ensures { λ r. ⌜ r ≡ writeAnswer set (length (now (buf .entry))) ⌝ }
+    ensures { λ r. ⌜ now (buf .exit) ≡ bufferAfter set (now (buf .entry)) ⌝ }
+{
+    if !well_formed(set) {
+        return Written::BadSet;
+    }
+    let needed = file_length(set);
+    if buf.len() < needed {
+        return Written::Short(needed);
+    }
+    put_file(buf, set);
+    Written::Wrote(needed)
+}
+
+// The length of the file.
+fn file_length(set: Set) -> usize
+    requires { ⌜ wellFormed set ≡ true ⌝ }
+    ensures { λ r. ⌜ r ≡ length (writeOf set) ⌝ }
+{
+    8 + reads_length(set) + outputs_length(set) + constraints_length(set)
+}
+
+fn reads_length(set: Set) -> usize
+    requires { ⌜ wellFormed set ≡ true ⌝ }
+    ensures { λ x. ⌜ (x ≡ length (readFields set)) × (x ≤ 208) ⌝ }
+{
+    let r = set.r;
+    let mut len: usize = 0;
+    let mut k: usize = 0;
+    while k < r {
+        let p = set.reads[k];
+        let name = p.name;
+        len = len + 5 + name_length(name);
+        k = k + 1;
+    }
+    len
+}
+
+fn outputs_length(set: Set) -> usize
+    requires { ⌜ wellFormed set ≡ true ⌝ }
+    ensures { λ x. ⌜ (x ≡ length (outputFields set)) × (x ≤ 132) ⌝ }
+{
+    let n = set.n;
+    let mut len: usize = 0;
+    let mut j: usize = 0;
+    while j < n {
+        let p = set.outputs[j];
+        let name = p.name;
+        len = len + 3 + name_length(name);
+        j = j + 1;
+    }
+    len
+}
+
+fn constraints_length(set: Set) -> usize
+    requires { ⌜ wellFormed set ≡ true ⌝ }
+    ensures { λ x. ⌜ (x ≡ length (constraintFields set)) × (x ≤ 3776) ⌝ }
+{
+    let m = set.m;
+    let mut len: usize = 0;
+    let mut i: usize = 0;
+    while i < m {
+        let c = set.constraints[i];
+        len = len + 3 + literals_length(c);
+        i = i + 1;
+    }
+    len
+}
+
+// The fields of the read points, from `at` on; the place behind them.
+fn put_reads(buf: &mut [u8], at: usize, set: Set) -> usize
+    requires { ⌜ (wellFormed set ≡ true) × (at + length (readFields set) ≤ length (now buf)) ⌝ }
+    ensures { λ x. ⌜ Put (now (buf .entry)) at (readFields set) (now (buf .exit)) x ⌝ }
+{
+    let r = set.r;
+    let mut next = at;
+    let mut k: usize = 0;
+    while k < r {
+        let p = set.reads[k];
+        next = put_read(&mut *buf, next, p);
+        k = k + 1;
+    }
+    next
+}
+
+// The fields of the outputs.
+fn put_outputs(buf: &mut [u8], at: usize, set: Set) -> usize
+    requires { ⌜ (wellFormed set ≡ true) × (at + length (outputFields set) ≤ length (now buf)) ⌝ }
+    ensures { λ x. ⌜ Put (now (buf .entry)) at (outputFields set) (now (buf .exit)) x ⌝ }
+{
+    let n = set.n;
+    let mut next = at;
+    let mut j: usize = 0;
+    while j < n {
+        let p = set.outputs[j];
+        next = put_output(&mut *buf, next, p);
+        j = j + 1;
+    }
+    next
+}
+
+// The fields of the constraints.
+fn put_constraints(buf: &mut [u8], at: usize, set: Set) -> usize
+    requires { ⌜ (wellFormed set ≡ true) × (at + length (constraintFields set) ≤ length (now buf)) ⌝ }
+    ensures { λ x. ⌜ Put (now (buf .entry)) at (constraintFields set) (now (buf .exit)) x ⌝ }
+{
+    let r = set.r;
+    let n = set.n;
+    let m = set.m;
+    let mut next = at;
+    let mut i: usize = 0;
+    while i < m {
+        let c = set.constraints[i];
+        next = put_constraint(&mut *buf, next, c, r, n);
+        i = i + 1;
+    }
+    next
+}
+
+// The whole file at the front of the buffer.
+fn put_file(buf: &mut [u8], set: Set)
+    requires { ⌜ (wellFormed set ≡ true) × (length (writeOf set) ≤ length (now buf)) ⌝ }
+    ensures { λ _. ⌜ now (buf .exit) ≡ putAt (now (buf .entry)) 0 (writeOf set) ⌝ }
+{
+    let reads = put_counts(&mut *buf, 0, set.r, set.n);
+    let outputs = put_reads(&mut *buf, reads, set);
+    let constraints = put_outputs(&mut *buf, outputs, set);
+    let end = put_constraints(&mut *buf, constraints, set);
+    put_header(&mut *buf, end, TAG_END, 0);
+}
