@@ -124,20 +124,17 @@ const FILE_ENDLESS: [u8; 30] = [
 
 fn set_p() -> Set {
     let loaded = loader::load(&FILE_P);
-    let set = loaded.set;
-    set
+    loaded.set
 }
 
 fn set_clashing() -> Set {
     let loaded = loader::load(&FILE_CLASHING);
-    let set = loaded.set;
-    set
+    loaded.set
 }
 
 fn set_endless() -> Set {
     let loaded = loader::load(&FILE_ENDLESS);
-    let set = loaded.set;
-    set
+    loaded.set
 }
 
 fn print_test(test: bool) {
@@ -261,11 +258,9 @@ fn print_judged(set: Set, scratch: &mut [u8], from: usize) {
     print_test(is_filled(scratch, from));
     let started = verdict::start(set, scratch);
     print_test(is_filled(scratch, from));
-    let state = started.state;
-    let s = state.set;
     let w = started.verdict;
     print_told(w);
-    print_test(s.n == 0);
+    print_test(started.state.set.n == 0);
 }
 
 fn print_found(set: Set, name: &[u8]) {
@@ -300,7 +295,6 @@ fn print_scan(set: Set, past_output: u16, past_sensor: u32, sensor: u32, request
     };
     let scanned = machine::scan(state, sensor, request);
     let answer = scanned.answer;
-    let next = scanned.state;
     match answer {
         ScanAnswer::Sent { vector, passes } => {
             print_number(0);
@@ -320,19 +314,36 @@ fn print_scan(set: Set, past_output: u16, past_sensor: u32, sensor: u32, request
             print_number(33);
         }
     }
-    print_number(next.past_output as usize);
-    print_number(next.past_sensor as usize);
+    print_number(scanned.state.past_output as usize);
+    print_number(scanned.state.past_sensor as usize);
     io::write_all(1, b",");
+}
+
+// The same of set P, so that what prints many cases has no set of its own.
+fn print_write_p(buf: &mut [u8], from: usize) {
+    print_write(set_p(), buf, from);
+}
+
+fn print_judged_p(scratch: &mut [u8], from: usize) {
+    print_judged(set_p(), scratch, from);
+}
+
+fn print_found_p(name: &[u8]) {
+    print_found(set_p(), name);
+}
+
+fn print_scan_p(past_output: u16, past_sensor: u32, sensor: u32, request: u16) {
+    print_scan(set_p(), past_output, past_sensor, sensor, request);
 }
 
 fn print_writes() {
     io::write_all(1, b"write:");
     let mut exact = [FILL; 39];
-    print_write(set_p(), &mut exact, 39);
+    print_write_p(&mut exact, 39);
     let mut long = [FILL; 64];
-    print_write(set_p(), &mut long, 39);
+    print_write_p(&mut long, 39);
     let mut short = [FILL; 38];
-    print_write(set_p(), &mut short, 0);
+    print_write_p(&mut short, 0);
     let mut bad = [FILL; 64];
     print_write(stray_name(), &mut bad, 0);
     io::write_all(1, b"\n");
@@ -341,11 +352,11 @@ fn print_writes() {
 fn print_verdicts() {
     io::write_all(1, b"judge, start:");
     let mut exact = [FILL; 4];
-    print_judged(set_p(), &mut exact, 4);
+    print_judged_p(&mut exact, 4);
     let mut long = [FILL; 64];
-    print_judged(set_p(), &mut long, 4);
+    print_judged_p(&mut long, 4);
     let mut short = [FILL; 3];
-    print_judged(set_p(), &mut short, 0);
+    print_judged_p(&mut short, 0);
     let mut bad = [FILL; 3];
     print_judged(stray_rank(), &mut bad, 0);
     let mut two = [FILL; 8];
@@ -357,25 +368,25 @@ fn print_verdicts() {
 
 fn print_finds() {
     io::write_all(1, b"find:");
-    print_found(set_p(), b"007");
-    print_found(set_p(), b"07");
-    print_found(set_p(), b"7");
-    print_found(set_p(), b"0007");
-    print_found(set_p(), b"7\0");
-    print_found(set_p(), b"");
-    print_found(set_p(), b"123456789");
+    print_found_p(b"007");
+    print_found_p(b"07");
+    print_found_p(b"7");
+    print_found_p(b"0007");
+    print_found_p(b"7\0");
+    print_found_p(b"");
+    print_found_p(b"123456789");
     print_found(both_ways(), b"");
     io::write_all(1, b"\n");
 }
 
 fn print_scans() {
     io::write_all(1, b"scan:");
-    print_scan(set_p(), 4, 0, 2, 4);
-    print_scan(set_p(), 3, 2, 2, 4);
+    print_scan_p(4, 0, 2, 4);
+    print_scan_p(3, 2, 2, 4);
     print_scan(stray_constraint(), 0, 0, 0, 0);
-    print_scan(set_p(), 3, 1, 2, 4);
-    print_scan(set_p(), 3, 1, 0, 4);
-    print_scan(set_p(), 3, 1, 1, 3);
+    print_scan_p(3, 1, 2, 4);
+    print_scan_p(3, 1, 0, 4);
+    print_scan_p(3, 1, 1, 3);
     print_scan(set_clashing(), 1, 0, 1, 0);
     print_scan(set_clashing(), 1, 1, 0, 1);
     io::write_all(1, b"\n");

@@ -175,8 +175,7 @@ fn scan_one(state: State, sensor: u32, request: u16) -> State {
             io::write_all(1, b" !33");
         }
     }
-    let next = scanned.state;
-    next
+    scanned.state
 }
 
 fn print_scans(start: State, calls: &[u8]) {
@@ -200,11 +199,10 @@ fn print_verdict(set: Set, calls: &[u8]) {
     let mut scratch = io::buffer();
     let started = verdict::start(set, &mut scratch);
     let v = started.verdict;
-    let state = started.state;
     match v {
         Verdict::Accepted => {
             io::write_all(1, b"ACCEPT\n");
-            print_scans(state, calls);
+            print_scans(started.state, calls);
         }
         Verdict::BadSet => {
             io::write_all(1, b"20\n");
@@ -227,6 +225,23 @@ fn print_verdict(set: Set, calls: &[u8]) {
     }
 }
 
+// What is answered of a loaded set, whose file this is.
+fn print_loaded(set: Set, file: &[u8], calls: &[u8]) {
+    io::write_all(1, b"LOADED ");
+    print(set.r);
+    io::write_all(1, b" ");
+    print(set.n);
+    io::write_all(1, b" ");
+    print(set.m);
+    io::write_all(1, b"\n");
+    print_written(set, file);
+    io::write_all(1, b"FIND");
+    print_reads(set);
+    print_outputs(set);
+    io::write_all(1, b"\n");
+    print_verdict(set, calls);
+}
+
 fn print_file(file: &[u8], calls: &[u8]) {
     let loaded = loader::load(file);
     let answer = loaded.answer;
@@ -238,22 +253,7 @@ fn print_file(file: &[u8], calls: &[u8]) {
             print(offset);
             io::write_all(1, b"\n");
         }
-        LoadAnswer::Loaded => {
-            let set = loaded.set;
-            io::write_all(1, b"LOADED ");
-            print(set.r);
-            io::write_all(1, b" ");
-            print(set.n);
-            io::write_all(1, b" ");
-            print(set.m);
-            io::write_all(1, b"\n");
-            print_written(set, file);
-            io::write_all(1, b"FIND");
-            print_reads(set);
-            print_outputs(set);
-            io::write_all(1, b"\n");
-            print_verdict(set, calls);
-        }
+        LoadAnswer::Loaded => print_loaded(loaded.set, file, calls),
     }
 }
 

@@ -10,7 +10,7 @@ use lib.Dec.{ltb, leb, eqb, lit<}
 use lib.ListN.{length, getD, drop, length-drop}
 use lib.Seq.{getD-drop}
 use borrow.Author.Tests.{not-true, le-leb, lt-leb, leb-true, leb-false, eqb-true, eqb-false, eq-eqb, ne-eqb}
-use Rattle.words.proofs.Bools.{clash, by-test, and-true, or-true}
+use Rattle.words.proofs.BoolLaws.{clash, by-test, and-true, or-true}
 use Rattle.header.specs.Header.{headerOf, frontOf, need, isDue, fitsTable, bodyLength, shortest, longest, step}
 use Rattle.header.specs.declared.header.Header.{Header}
 use Rattle.header.specs.declared.header.Header.the-variants.{Refused, Field}

@@ -1,4 +1,4 @@
 pub mod TextLaws
 pub mod LineLaws
+pub mod DigitsLaws
 pub mod LoadedSets
-pub mod Decimals

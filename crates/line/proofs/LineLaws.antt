@@ -9,7 +9,7 @@ use native.Mathlib.Omega.{arith}
 use borrow.Author.Tests.{lt-leb, le-leb}
 use lib.Dec.{leb}
 use lib.ListN.{length, getD, take, drop, set, length-append}
-use Rattle.writer.specs.Write.{putAt}
+use Rattle.writer.specs.way.Write.{putAt}
 use Rattle.writer.proofs.WriteLaws.{put-next}
 use Rattle.line.specs.declared.printer.Line.{Line}
 use Rattle.loader.specs.declared.loader.Loaded.{Loaded}

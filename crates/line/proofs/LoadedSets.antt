@@ -7,14 +7,14 @@ use Prim.Native.Nat.{ℕ, _^_, _≤_}
 use native.Mathlib.Omega.{arith}
 use lib.Pow.{pow-mono}
 use Rattle.scan.specs.Shape.{wellFormed}
-use Rattle.scan.proofs.Formed.{counts}
+use Rattle.scan.proofs.ShapeLaws.{counts}
 use Rattle.header.specs.Bytes.{Bytes}
 use Rattle.loader.specs.declared.loader.LoadAnswer.the-variants.{Loaded}
 use Rattle.loader.specs.Load.{loadOf}
 use Rattle.setfile.proofs.WriteLoaded.{write-loaded}
 use Rattle.verdict.specs.Judge.{judgeOf}
 use Rattle.verdict.specs.Meaning.{Means}
-use Rattle.verdict.proofs.Verdicts.{verdict-means}
+use Rattle.verdict.proofs.MeaningLaws.{verdict-means}
 
 pub loaded-judged : (file : List ℕ) (room : ℕ) → Bytes file → 4096 ≤ room → loadOf file .answer ≡ Loaded → Means (loadOf file .set) (judgeOf (loadOf file .set) room)
 loaded-judged file room bytes enough loaded =

@@ -6,7 +6,7 @@ use super::text::word_text;
 ghost use mathlib.Core.Path.{_≡_};
 ghost use Prim.Native.Nat.{_+_, _≤_};
 ghost use lib.ListN.{length};
-ghost use Rattle.writer.specs.Write.{putAt};
+ghost use Rattle.writer.specs.way.Write.{putAt};
 ghost use Rattle.line.specs.Line.{lineBytes, lineAnswer, bufferAfter, textBytes};
 
 // Accepted, with the counts of read points, outputs and constraints; or the refusal of the load and its offset; or why the verdict rejects the set.

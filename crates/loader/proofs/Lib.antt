@@ -1,5 +1,4 @@
-pub mod LiteralLaws
 pub mod LoadLaws
-pub mod Columns
-pub mod Keeps
-pub mod Refusals
+pub mod LoadKeeps
+pub mod ColumnLaws
+pub mod RefusedZero

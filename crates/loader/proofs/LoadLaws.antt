@@ -19,10 +19,10 @@ use Rattle.scan.specs.Set.{readPoint}
 use Rattle.shape.specs.NameRead.{nameRead}
 use Rattle.scan.specs.Names.{isUsed}
 use Rattle.scan.specs.Shape.{countTests, isSensor}
-use Rattle.scan.proofs.Shapes.{counts-rest}
+use Rattle.scan.proofs.ShapeLaws.{counts-rest}
 use Rattle.header.specs.declared.header.Header.the-variants.{Refused as Stopped, Field}
-use Rattle.loader.specs.declared.literal.Taken.{Taken}
-use Rattle.loader.specs.declared.literal.Literals.{Literals}
+use Rattle.literal.specs.declared.literal.Taken.{Taken}
+use Rattle.literal.specs.declared.literal.Literals.{Literals}
 use Rattle.loader.specs.declared.point.KindRead.the-variants.{Bad, Known}
 use Rattle.loader.specs.declared.point.Point.{Point}
 use Rattle.loader.specs.declared.point.Point.the-variants.{Good}
@@ -31,7 +31,7 @@ use Rattle.loader.specs.declared.point.OutputField.{OutputField}
 use Rattle.loader.specs.declared.loader.Progress.{Progress}
 use Rattle.loader.specs.declared.loader.Loading.{Loading}
 use Rattle.header.specs.Header.{headerOf, bodyOf}
-use Rattle.loader.specs.Literal.{literalsOf}
+use Rattle.literal.specs.Literal.{literalsOf}
 use Rattle.loader.specs.Load.{kindOf, kindIf, outputField, deniedOutput, outputNamed, readField, deniedRead, readTold, readNamed, countsAt, countsGiven, withCounts, refusal, goingOn, readAt, readGiven, readDone, outputAt, outputGiven, outputDone, constraintAt, constraintDone, answerOf, loadFrom, loadOf}
 
 -- ---- parts of a slice
@@ -189,11 +189,12 @@ module _ (s : List ℕ) (at : ℕ) (set : Set) (j : ℕ) where
 
 -- ---- a constraint, by its literals
 
-pub constraint-done : (s : List ℕ) (at len : ℕ) (set : Set) (f : Literals) (t : Taken)
-    → f ≡ literalsOf (set .r) (set .n) (take (at + 3 + len - (at + 3)) (drop (at + 3) s)) → f .taken ≡ t → constraintAt s at len set ≡ constraintDone at len set t (f .made)
+pub constraint-done : (s : List ℕ) (at len : ℕ) (set : Set) (f : Literals) (t : Taken) → set .n ≤ 12
+    → f ≡ literalsOf (set .r) (min (set .n) 12) (take (at + 3 + len - (at + 3)) (drop (at + 3) s)) → f .taken ≡ t → constraintAt s at len set ≡ constraintDone at len set t (f .made)
 unfolding constraintAt
-constraint-done s at len set f t e q =
-    from-part s at len (literalsOf (set .r) (set .n)) (λ g. g .taken) (λ x g. constraintDone at len set x (g .made)) f t e q
+constraint-done s at len set f t h e q =
+    from-part s at len (literalsOf (set .r) (set .n)) (λ g. g .taken) (λ x g. constraintDone at len set x (g .made)) f t
+    (e ∙ ap (λ (n : ℕ). literalsOf (set .r) n (take (at + 3 + len - (at + 3)) (drop (at + 3) s))) (min-eq-left h)) q
 
 -- ---- the whole file: the answer is told by how far the load has come
 

@@ -17,7 +17,7 @@ use Rattle.loader.specs.declared.loader.Progress.{Progress}
 use Rattle.loader.specs.declared.loader.Progress.the-variants.{At, Refused}
 use Rattle.loader.specs.declared.loader.Loading.{Loading}
 use Rattle.header.specs.Header.{fitsTable, isDue, bodyLength, bodyOf}
-use Rattle.loader.specs.Literal.{isOutput, place, isLiteral}
+use Rattle.literal.specs.Literal.{isOutput, place, isLiteral}
 use Rattle.loader.specs.Load.{countsAt, readAt, readsFrom, outputAt, outputsFrom, constraintAt}
 
 -- ---- columns

@@ -1,4 +1,3 @@
-pub mod Literal
 pub mod Load
 pub mod Column
-pub mod LoadTold
+pub mod Told

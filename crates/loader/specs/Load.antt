@@ -21,9 +21,9 @@ use Rattle.scan.specs.Names.{isUsed}
 use Rattle.scan.specs.Shape.{countTests, isSensor}
 use Rattle.header.specs.declared.header.Header.{Header}
 use Rattle.header.specs.declared.header.Header.the-variants.{Refused as Stopped, Field}
-use Rattle.loader.specs.declared.literal.Taken.{Taken}
-use Rattle.loader.specs.declared.literal.Taken.the-variants.{Refused as Failed, Next}
-use Rattle.loader.specs.declared.literal.Literals.{Literals}
+use Rattle.literal.specs.declared.literal.Taken.{Taken}
+use Rattle.literal.specs.declared.literal.Taken.the-variants.{Refused as Failed, Next}
+use Rattle.literal.specs.declared.literal.Literals.{Literals}
 use Rattle.loader.specs.declared.point.Point.{Point}
 use Rattle.loader.specs.declared.point.Point.the-variants.{Refused as Denied, Good}
 use Rattle.loader.specs.declared.point.KindRead.{KindRead}
@@ -37,7 +37,7 @@ use Rattle.loader.specs.declared.loader.LoadAnswer.{LoadAnswer}
 use Rattle.loader.specs.declared.loader.LoadAnswer.the-variants.{Loaded as WasLoaded, Refused as WasRefused}
 use Rattle.loader.specs.declared.loader.Loaded.{Loaded}
 use Rattle.header.specs.Header.{headerOf, bodyOf}
-use Rattle.loader.specs.Literal.{literalsOf}
+use Rattle.literal.specs.Literal.{literalsOf}
 
 -- ---- how far a load has come
 

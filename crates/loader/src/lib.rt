@@ -1,6 +1,5 @@
 // Loading a set file.
 mod point; // the bodies of read points and outputs
-mod literal; // the body of a constraint
 mod loader; // the whole file, front to back
 
 pub use loader::LoadAnswer;

@@ -1,6 +1,4 @@
 // Loading: the counts, then read points, outputs, constraints and the end, each field from the front of what is left.
-use super::literal::Taken;
-use super::literal::literals_of;
 use super::point::Point;
 use super::point::output_field;
 use super::point::read_field;
@@ -13,11 +11,15 @@ use header::TAG_END;
 use header::TAG_OUTPUT;
 use header::TAG_READ;
 use header::front_at;
+use literal::Taken;
+use literal::literals_of;
 use scan::Set;
 use scan::zero_set;
 ghost use mathlib.Core.Path.{_≡_};
 ghost use Prim.Native.Nat.{_+_, _≤_, _<_, _%_};
 ghost use lib.ListN.{length, drop};
+ghost use Rattle.loader.specs.declared.loader.Loaded.{Loaded};
+ghost use Rattle.loader.specs.declared.loader.LoadAnswer.the-variants.{Loaded as WasLoaded};
 ghost use Rattle.loader.specs.Load.{refusal, goingOn, countsAt, readAt, outputAt, constraintAt, readsFrom, outputsFrom, constraintsFrom, afterReads, afterCounts, loadFrom, loadOf};
 
 // A file was loaded; or the number of the refusal and the offset of the field's first byte.
@@ -201,10 +203,7 @@ fn after_reads(s: &[u8], at: usize, set: Set) -> Loading
     let p = l.progress;
     match p {
         Progress::Refused(_, _) => l,
-        Progress::At(next) => {
-            let so_far = l.set;
-            constraints_at(s, next, so_far)
-        }
+        Progress::At(next) => constraints_at(s, next, l.set),
     }
 }
 
@@ -216,10 +215,7 @@ fn after_counts(s: &[u8], at: usize, set: Set) -> Loading
     let p = l.progress;
     match p {
         Progress::Refused(_, _) => l,
-        Progress::At(next) => {
-            let so_far = l.set;
-            after_reads(s, next, so_far)
-        }
+        Progress::At(next) => after_reads(s, next, l.set),
     }
 }
 
@@ -231,11 +227,16 @@ fn load_from(s: &[u8]) -> Loading
     let p = l.progress;
     match p {
         Progress::Refused(_, _) => l,
-        Progress::At(at) => {
-            let set = l.set;
-            after_counts(s, at, set)
-        }
+        Progress::At(at) => after_counts(s, at, l.set),
     }
+}
+
+// What is answered of a file that holds the set.
+fn file_taken(set: Set) -> Loaded
+    ensures { λ r. ⌜ r ≡ record { answer = WasLoaded; set = set } ⌝ }
+{
+    let answer = LoadAnswer::Loaded;
+    Loaded { answer, set }
 }
 
 // The set that the file holds; or the refusal, beside a set with every field zero.
@@ -244,15 +245,14 @@ pub fn load(file: &[u8]) -> Loaded
 {
     let l = load_from(file);
     let p = l.progress;
-    let set = l.set;
     match p {
-        Progress::At(_) => Loaded {
-            answer: LoadAnswer::Loaded,
-            set,
-        },
-        Progress::Refused(number, offset) => Loaded {
-            answer: LoadAnswer::Refused { number, offset },
-            set,
-        },
+        Progress::At(_) => file_taken(l.set),
+        Progress::Refused(number, offset) => {
+            let set = l.set;
+            Loaded {
+                answer: LoadAnswer::Refused { number, offset },
+                set,
+            }
+        }
     }
 }

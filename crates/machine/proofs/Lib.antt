@@ -1,5 +1,4 @@
-pub mod ReadWords
-pub mod Answers
-pub mod Histories
+pub mod PastLaws
+pub mod MachineLaws
+pub mod HistoryLaws
 pub mod ScanAlike
-pub mod WorkedCases

@@ -2,4 +2,3 @@ pub mod Past
 pub mod Machine
 pub mod Told
 pub mod History
-pub mod Worked

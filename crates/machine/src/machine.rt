@@ -3,13 +3,13 @@ use super::past::read_word;
 use scan::Set;
 use scan::State;
 use scan::Walk;
-use scan::both;
 use scan::build;
-use scan::keep32;
 use scan::start_vector;
 use scan::walk_over;
 use shape::is_sensor;
 use shape::well_formed;
+use words::both;
+use words::keep32;
 ghost use mathlib.Core.Path.{_≡_};
 ghost use mathlib.Core.Bool.{true};
 ghost use Prim.Native.Nat.{_≤_};
@@ -63,11 +63,10 @@ fn is_sensor_word(s: Set, now: u32) -> bool
 fn is_state_ok(st: State) -> bool
     ensures { λ r. ⌜ r ≡ stateOk st ⌝ }
 {
-    let s = st.set;
-    let r = s.r;
-    let n = s.n;
+    let r = st.set.r;
+    let n = st.set.n;
     both(
-        well_formed(s),
+        well_formed(st.set),
         both(
             words::fits16(st.past_output, n),
             words::fits32(st.past_sensor, r),
@@ -97,25 +96,25 @@ pub fn scan(state: State, sensor: u32, request: u16) -> Scanned
     if !is_state_ok(state) {
         return refuse(state, ScanAnswer::BadState);
     }
-    let s = state.set;
-    let n = s.n;
-    if !is_sensor_word(s, sensor) {
+    let n = state.set.n;
+    if !is_sensor_word(state.set, sensor) {
         return refuse(state, ScanAnswer::BadSensor);
     }
     if !words::fits16(request, n) {
         return refuse(state, ScanAnswer::BadRequest);
     }
-    let w = read_word(s, state.past_output, state.past_sensor, sensor);
-    let walked = walk_from(s, w, request);
+    let w = read_word(state.set, state.past_output, state.past_sensor, sensor);
+    let walked = walk_from(state.set, w, request);
     match walked {
-        Walk::Safe { vector, passes } => Scanned {
-            answer: ScanAnswer::Sent { vector, passes },
-            state: State {
-                set: s,
-                past_output: vector,
-                past_sensor: sensor,
-            },
-        },
+        Walk::Safe { vector, passes } => {
+            let mut next = state;
+            next.past_output = vector;
+            next.past_sensor = sensor;
+            Scanned {
+                answer: ScanAnswer::Sent { vector, passes },
+                state: next,
+            }
+        }
         Walk::Never => refuse(state, ScanAnswer::Unsafe),
     }
 }

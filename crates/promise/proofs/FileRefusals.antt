@@ -9,7 +9,7 @@ use native.Mathlib.Omega.{arith}
 use lib.Dec.{ltb}
 use lib.ListN.{length, drop}
 use borrow.Author.Tests.{ltb-true, ltb-false}
-use Rattle.words.proofs.Bools.{by-test}
+use Rattle.words.proofs.BoolLaws.{by-test}
 use Rattle.scan.specs.declared.set.Set.{Set}
 use Rattle.scan.specs.Shape.{wellFormed}
 use Rattle.verdict.proofs.JudgeLaws.{bad-set}
@@ -17,13 +17,14 @@ use Rattle.loader.specs.declared.loader.LoadAnswer.{LoadAnswer}
 use Rattle.loader.specs.declared.loader.LoadAnswer.the-variants.{Loaded as WasLoaded, Refused as WasRefused}
 use Rattle.loader.specs.declared.loader.Loaded.{Loaded}
 use Rattle.loader.specs.Load.{loadOf}
-use Rattle.writer.specs.Write.{writeOf, writeAnswer, bufferAfter, putAt}
-use Rattle.loader.specs.LoadTold.{loadTold}
-use Rattle.writer.specs.WriteTold.{writeTold}
-use Rattle.loader.proofs.Columns.{load-refused, load-taken}
+use Rattle.writer.specs.Write.{writeOf, writeAnswer, bufferAfter}
+use Rattle.writer.specs.way.Write.{putAt}
+use Rattle.loader.specs.Told.{loadTold}
+use Rattle.writer.specs.Told.{writeTold}
+use Rattle.loader.proofs.ColumnLaws.{load-refused, load-taken}
 use Rattle.setfile.proofs.LoadWritten.{load-written}
 use Rattle.setfile.proofs.WriteLoaded.{write-loaded}
-use Rattle.loader.proofs.Refusals.{refused-zero}
+use Rattle.loader.proofs.RefusedZero.{refused-zero}
 use Rattle.writer.proofs.WriteLaws as Write
 use Rattle.promise.specs.Promise.{LoadRefusals, WriteRefusals}
 use Rattle.promise.proofs.Numbers.{apart}

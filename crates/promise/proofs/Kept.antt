@@ -7,7 +7,7 @@ use mathlib.Core.Logic.{inl, inr, ⊎-elim, _↔_}
 use Prim.Native.Nat.{ℕ, _≤_}
 use lib.ListN.{length, take, drop}
 use lib.Seq.{take-append-seam}
-use Rattle.words.proofs.Bools.{by-test}
+use Rattle.words.proofs.BoolLaws.{by-test}
 use Rattle.scan.specs.declared.set.Set.{Set}
 use Rattle.scan.specs.declared.set.State.{State}
 use Rattle.machine.specs.declared.machine.Scanned.{Scanned}
@@ -16,18 +16,18 @@ use Rattle.scan.specs.Shape.{wellFormed}
 use Rattle.machine.specs.Machine.{scanOf}
 use Rattle.scan.specs.Walk.{passesDue}
 use Rattle.machine.specs.Told.{scanTold}
-use Rattle.machine.proofs.Answers.{sends-due, scan-answers, scan-keeps-set}
+use Rattle.machine.proofs.MachineLaws.{sends-due, scan-answers, scan-keeps-set}
 use Rattle.verdict.specs.Judge.{judgeOf}
 use Rattle.verdict.specs.Start.{startOf}
 use Rattle.loader.specs.declared.loader.Loaded.{Loaded}
 use Rattle.header.specs.Bytes.{Bytes}
 use Rattle.loader.specs.Load.{loadOf}
 use Rattle.writer.specs.Write.{writeOf, writeAnswer, bufferAfter}
-use Rattle.loader.specs.LoadTold.{loadTold}
-use Rattle.writer.specs.WriteTold.{writeTold}
+use Rattle.loader.specs.Told.{loadTold}
+use Rattle.writer.specs.Told.{writeTold}
 use Rattle.setfile.proofs.WriteLoaded.{write-loaded}
 use Rattle.setfile.proofs.FilesAndSets.{formed-iff}
-use Rattle.loader.proofs.Refusals.{zero-not-loaded}
+use Rattle.loader.proofs.RefusedZero.{zero-not-loaded}
 use Rattle.promise.specs.Allowed.{StateAllowed, SensorAllowed, RequestAllowed, wordOf}
 use Rattle.promise.specs.Promise.{Answers, Demand1, Demand2, Demand3}
 use Rattle.promise.proofs.FileRefusals.{told-loaded, written-loads, load-refusals, write-refusals}

@@ -9,21 +9,20 @@ use native.Mathlib.Omega.{arith}
 use lib.Dec.{ltb, leb}
 use lib.ListN.{length}
 use borrow.Author.Tests.{ltb-true, ltb-false, leb-true, le-leb}
-use Rattle.words.proofs.Bools.{by-test, clash, and-true}
+use Rattle.words.proofs.BoolLaws.{by-test, clash, and-true}
 use Rattle.scan.specs.declared.set.Set.{Set}
 use Rattle.shape.specs.declared.finding.Found.{Found}
 use Rattle.shape.specs.declared.finding.Found.the-variants.{Read, Output, BadSet, BadLength, Unknown}
 use Rattle.scan.specs.Names.{lengthOk, allNameBytes, padded, firstRead, firstOutput}
 use Rattle.scan.specs.Shape.{wellFormed}
 use Rattle.shape.specs.Finding.{findPadded, findOf}
-use Rattle.shape.specs.FoundTold.{findTold}
-use Rattle.shape.proofs.Finds.{find-read, find-output, find-none, find-bad, find-length, find-strange, find-named}
+use Rattle.shape.specs.Told.{findTold}
+use Rattle.shape.proofs.FindingLaws.{find-read, find-output, find-none, find-bad, find-length, find-strange, find-named}
 use Rattle.shape.proofs.FoundPoints.{read-found, output-found, found-read, found-output}
 use Rattle.writer.proofs.WriteLaws as Write
 use Rattle.promise.specs.Allowed.{readName, outputName, LengthAllowed, NoPoint}
 use Rattle.promise.specs.Promise.{FindRefusals}
-use Rattle.promise.proofs.Numbers.{apart}
-use Rattle.promise.proofs.Numbers.{fails-not}
+use Rattle.promise.proofs.Numbers.{apart, fails-not}
 
 module _ (s : Set) (bytes : List ℕ) where
   abbrev found : List ℕ

@@ -7,7 +7,7 @@ use mathlib.Core.List.{List, _∷_}
 use Prim.Native.Nat.{ℕ}
 use lib.Dec.{eqb}
 use borrow.Author.Tests.{eqb-false}
-use Rattle.words.proofs.Bools.{by-test, clash}
+use Rattle.words.proofs.BoolLaws.{by-test, clash}
 
 -- two lists that begin with different numbers are not equal
 pub apart {ℓ} : {C : Type ℓ} (x y : ℕ) (xs ys : List ℕ) → eqb x y ≡ false → x ∷ xs ≡ y ∷ ys → C

@@ -8,7 +8,7 @@ use Prim.Native.Nat.{ℕ, _^_, _≤_, _<_}
 use native.Mathlib.Omega.{arith}
 use lib.Dec.{eqb, ltb}
 use borrow.Author.Tests.{ltb-false}
-use Rattle.words.proofs.Bools.{by-test}
+use Rattle.words.proofs.BoolLaws.{by-test}
 use Rattle.scan.specs.declared.set.Set.{Set}
 use Rattle.scan.specs.declared.set.State.{State}
 use Rattle.machine.specs.declared.machine.ScanAnswer.{ScanAnswer}
@@ -17,7 +17,7 @@ use Rattle.scan.specs.Shape.{wellFormed}
 use Rattle.machine.specs.Machine.{sensorOk, requestOk}
 use Rattle.machine.specs.Told.{scanTold}
 use Rattle.machine.specs.History.{Call, allowed, run, runState, stateAfter, pastSensor, pastOutput, Right, AllRight}
-use Rattle.machine.proofs.Histories.{all-right, list-state}
+use Rattle.machine.proofs.HistoryLaws.{all-right, list-state}
 use Rattle.verdict.specs.declared.verdict.Verdict.{Verdict}
 use Rattle.verdict.specs.declared.verdict.Verdict.the-variants.{Accepted, BadSet, ShortScratch, NoVector, NoEnd}
 use Rattle.verdict.specs.Judge.{judgeOf}
@@ -25,7 +25,7 @@ use Rattle.verdict.specs.Start.{startState, startOf}
 use Rattle.verdict.specs.Told.{verdictTold}
 use Rattle.verdict.specs.Meaning.{Good, Means}
 use Rattle.verdict.proofs.JudgeLaws.{bad-set, short-scratch}
-use Rattle.verdict.proofs.Verdicts.{verdict-of, verdict-means, rejects-exactly}
+use Rattle.verdict.proofs.MeaningLaws.{verdict-of, verdict-means, rejects-exactly}
 use Rattle.promise.specs.Answers.{NeverTold}
 use Rattle.promise.specs.Promise.{ExactVerdict, ExactStart, RightScans}
 use Rattle.promise.proofs.Numbers.{apart}

@@ -5,22 +5,20 @@ use mathlib.Core.Bool.{true}
 use mathlib.Core.List.{List, [], _∷_}
 use mathlib.Core.Logic.{_↔_}
 use Prim.Native.Nat.{ℕ}
-use Rattle.words.proofs.Bools.{by-test}
+use Rattle.words.proofs.BoolLaws.{by-test}
 use Rattle.scan.specs.declared.set.Set.{Set}
 use Rattle.scan.specs.declared.set.State.{State}
 use Rattle.machine.specs.declared.machine.Scanned.{Scanned}
-use Rattle.scan.specs.Walk.{Reaches}
+use Rattle.scan.specs.Walk.{Reaches, vectorDue, passesDue}
 use Rattle.machine.specs.Machine.{stateOk, sensorOk, requestOk, scanOf}
-use Rattle.scan.specs.Walk.{vectorDue, passesDue}
 use Rattle.machine.specs.Told.{scanTold}
-use Rattle.machine.proofs.ReadWords.{sensor-lt, sensor-bits, sensor-allowed}
-use Rattle.scan.proofs.Walks.{reaches-or-never}
-use Rattle.machine.proofs.Answers.{state-parts, state-passes, state-formed, request-lt, request-passes, scan-bad-state, scan-bad-sensor, scan-bad-request, scan-sends, scan-unsafe, refused-keeps-state}
+use Rattle.machine.proofs.PastLaws.{sensor-lt, sensor-bits, sensor-allowed}
+use Rattle.scan.proofs.WalkLaws.{reaches-or-never}
+use Rattle.machine.proofs.MachineLaws.{state-parts, state-passes, state-formed, request-lt, request-passes, scan-bad-state, scan-bad-sensor, scan-bad-request, scan-sends, scan-unsafe, refused-keeps-state}
 use Rattle.writer.proofs.WriteLaws as Write
 use Rattle.promise.specs.Allowed.{StateAllowed, SensorAllowed, RequestAllowed, wordOf}
 use Rattle.promise.specs.Promise.{ScanRefusals}
-use Rattle.promise.proofs.Numbers.{apart}
-use Rattle.promise.proofs.Numbers.{fails-not}
+use Rattle.promise.proofs.Numbers.{apart, fails-not}
 
 pub state-iff : (st : State) → (stateOk st ≡ true) ↔ StateAllowed st
 state-iff st = (state-parts st, λ a. state-passes st (a .0) (a .1) (a .2))

@@ -8,7 +8,7 @@ use Prim.Native.Nat.{ℕ, _^_, _≤_, _<_}
 use native.Mathlib.Omega.{arith}
 use lib.Dec.{ltb}
 use borrow.Author.Tests.{ltb-true, ltb-false}
-use Rattle.words.proofs.Bools.{by-test, clash}
+use Rattle.words.proofs.BoolLaws.{by-test, clash}
 use Rattle.scan.specs.declared.set.Set.{Set}
 use Rattle.scan.specs.Shape.{wellFormed}
 use Rattle.verdict.specs.declared.verdict.Verdict.{Verdict}
@@ -16,7 +16,7 @@ use Rattle.verdict.specs.declared.verdict.Verdict.the-variants.{Accepted, BadSe
 use Rattle.verdict.specs.Judge.{judgeOf}
 use Rattle.verdict.specs.Told.{verdictTold}
 use Rattle.verdict.specs.Meaning.{Means}
-use Rattle.verdict.proofs.Verdicts.{verdict-means}
+use Rattle.verdict.proofs.MeaningLaws.{verdict-means}
 use Rattle.verdict.proofs.JudgeLaws.{bad-set, short-scratch, loose-bad, loose-short, loose}
 use Rattle.writer.proofs.WriteLaws as Write
 use Rattle.promise.specs.Promise.{VerdictRefusals}

@@ -1,17 +1,20 @@
--- The starred cases of document 01's "Tried by hand", and cases for what they leave open, run from the start's definition.
+-- Worked cases: the starred ones of document 01's "Tried by hand", and those for what they leave open.
 -- Assumes nothing.
 use Prim.Native.Nat.{ℕ, _^_}
 use mathlib.Core.Path.{_≡_}
 use mathlib.Core.Bool.{cond, _||_}
 use mathlib.Core.List.{List, [], _∷_, map}
+use lib.ListN.{replicate}
 use Rattle.words.specs.Word.{bit}
 use Rattle.scan.specs.declared.set.Set.{Set}
-use Rattle.scan.specs.Set.{zeroSet}
+use Rattle.scan.specs.declared.set.State.{State}
+use Rattle.scan.specs.Set.{zeroSet, stateOf, freshState}
 use Rattle.scan.specs.Holds.{F0, F1, unheldCount}
+use Rattle.shape.specs.Finding.{findOf}
+use Rattle.shape.specs.Told.{findTold}
 use Rattle.machine.specs.History.{Call, run}
 use Rattle.machine.specs.Told.{scanTold}
-use Rattle.scan.specs.Samples.{setP, P, now, nameA, setOf, product, clashing, endless, equalRanks, twoPairs, risingEdge, forcedOn, afterB, threePasses}
-use Rattle.machine.specs.Worked.{call, sent, no}
+use Rattle.scan.specs.Samples.{name7, name07, name007, setP, P, now, nameA, setOf, product, clashing, endless, equalRanks, twoPairs, risingEdge, forcedOn, afterB, threePasses}
 use Rattle.verdict.specs.Judge.{judgeOf}
 use Rattle.verdict.specs.Start.{startOf}
 use Rattle.verdict.specs.Told.{verdictTold}
@@ -20,12 +23,16 @@ use Rattle.verdict.specs.Told.{verdictTold}
 pub data Case : Type 0 where
   -- the set is accepted, and scans from its start, one after the other, are answered so
   scans : Set → List Call → List (List ℕ) → Case
+  -- scans, the first of this state, of a start or made by hand, and each later one of the state that the one before it returned
+  scansOf : State → List Call → List (List ℕ) → Case
   -- the verdict and the start, with so many bytes of scratch, say so
   judged : Set → ℕ → List ℕ → Case
   -- f at a read word
   free : Set → ℕ → ℕ → Case
   -- at the read word w output k is held
   held : Set → ℕ → ℕ → Case
+  -- finding these bytes in the set
+  finds : Set → List ℕ → List ℕ → Case
 
 -- scratch enough
 abbrev pub enough : Set → ℕ
@@ -34,20 +41,36 @@ enough s = 2 ^ s .n
 -- what the definitions answer
 abbrev pub answered : Case → List (List ℕ)
 answered (scans s calls told) = verdictTold (startOf s (enough s) .verdict) ∷ map scanTold (run (startOf s (enough s) .state) calls)
+answered (scansOf st calls told) = map scanTold (run st calls)
 answered (judged s room told) = verdictTold (judgeOf s room) ∷ verdictTold (startOf s room .verdict) ∷ []
 answered (free s w f) = (unheldCount s w ∷ []) ∷ []
 answered (held s w k) = (cond (bit k (F0 s w) || bit k (F1 s w)) 1 0 ∷ []) ∷ []
+answered (finds s bytes told) = findTold (findOf s bytes) ∷ []
 
 -- what is to be answered
 abbrev pub expected : Case → List (List ℕ)
 expected (scans s calls told) = (0 ∷ []) ∷ told
+expected (scansOf st calls told) = told
 expected (judged s room told) = told ∷ told ∷ []
 expected (free s w f) = (f ∷ []) ∷ []
 expected (held s w k) = (1 ∷ []) ∷ []
+expected (finds s bytes told) = told ∷ []
 
 -- every case of a list is answered as it is to be
 abbrev pub AllAnswered : List Case → Type 0
 AllAnswered cases = map answered cases ≡ map expected cases
+
+-- a scan's sensor word and request
+abbrev pub call : ℕ → ℕ → Call
+call w g = record { sensor = w; request = g }
+
+-- a vector sent after so many passes
+abbrev pub sent : ℕ → ℕ → List ℕ
+sent v passes = 0 ∷ v ∷ passes ∷ []
+
+-- a refusal
+abbrev pub no : ℕ → List ℕ
+no number = number ∷ []
 
 -- all starred cases; A, B, C are outputs 0, 1, 2, and s or "now" is read point 0
 abbrev pub starred : List Case
@@ -77,7 +100,7 @@ starred =
 abbrev pub clashingLater : Set
 clashingLater = setOf (now ∷ record { kind = now .kind; name = 0x74 ∷ 0 ∷ 0 ∷ 0 ∷ 0 ∷ 0 ∷ 0 ∷ 0 ∷ [] } ∷ []) (nameA ∷ []) (product 2 0 0 1 [] ∷ product 2 0 1 0 [] ∷ [])
 
--- what those leave open
+-- what those leave open: verdicts, and scans from a start
 abbrev pub further : List Case
 further =
     -- 20 before 21; 21 with one byte too few; exactly enough
@@ -86,9 +109,47 @@ further =
     ∷ judged P 4 (no 0)
     -- the first of two words that fail
     ∷ judged clashingLater 2 (22 ∷ 2 ∷ [])
-    -- F1 in the start vector; a refused scan between two others; the past of output 1 at read point 0; all of 2 ^ f - 1 passes
+    -- F1 holds A to 1 in the start vector
     ∷ scans forcedOn (call 1 0 ∷ call 0 0 ∷ []) (sent 1 0 ∷ sent 0 0 ∷ [])
+    -- the past of a refused scan is not read: neither its sensor word, nor a vector
     ∷ scans risingEdge (call 0 1 ∷ call 1 2 ∷ call 1 1 ∷ call 2 1 ∷ call 1 1 ∷ []) (sent 1 0 ∷ no 32 ∷ sent 0 0 ∷ no 31 ∷ sent 1 0 ∷ [])
-    ∷ scans afterB (call 0 1 ∷ call 0 1 ∷ call 0 2 ∷ call 0 1 ∷ []) (sent 1 0 ∷ sent 1 0 ∷ sent 2 0 ∷ sent 0 0 ∷ [])
+    -- read point 0 is the past of output 1 and not of output 0
+    ∷ scans afterB (call 0 1 ∷ call 0 1 ∷ call 0 2 ∷ call 0 1 ∷ call 0 1 ∷ []) (sent 1 0 ∷ sent 1 0 ∷ sent 2 0 ∷ sent 0 0 ∷ sent 1 0 ∷ [])
+    -- all of 2 ^ f - 1 passes
     ∷ scans threePasses (call 0 1 ∷ []) (sent 0 3 ∷ [])
+    -- 31 before 32: out of width, and at a past point; 32
+    ∷ scans P (call 2 4 ∷ call 0 4 ∷ []) (no 31 ∷ no 32 ∷ [])
+    ∷ scans risingEdge (call 2 2 ∷ []) (no 31 ∷ [])
+    ∷ []
+
+-- scans of states that no start gave
+abbrev pub scanCases : List Case
+scanCases =
+    -- 30: a past output word out of width, a past sensor word out of width, a set that is not well formed
+    scansOf (stateOf P 4 0) (call 2 4 ∷ []) (no 30 ∷ [])
+    ∷ scansOf (stateOf P 0 2) (call 2 4 ∷ []) (no 30 ∷ [])
+    ∷ scansOf (freshState zeroSet) (call 0 0 ∷ []) (no 30 ∷ [])
+    -- a past sensor word may have bits at past points
+    ∷ scansOf (stateOf risingEdge 0 2) (call 1 1 ∷ []) (sent 0 0 ∷ [])
+    -- 33: with f = 0 at once, and after 2 ^ f - 1 passes; the state stays
+    ∷ scansOf (freshState clashing) (call 1 0 ∷ call 0 1 ∷ []) (no 33 ∷ sent 1 0 ∷ [])
+    ∷ scansOf (freshState endless) (call 0 1 ∷ call 0 0 ∷ []) (no 33 ∷ sent 0 0 ∷ [])
+    ∷ []
+
+-- finding
+abbrev pub findCases : List Case
+findCases =
+    -- 7, 07 and 007 are three names
+    finds P name007 (0 ∷ 0 ∷ 0 ∷ [])
+    ∷ finds P name07 (0 ∷ 1 ∷ 0 ∷ [])
+    ∷ finds P name7 (0 ∷ 1 ∷ 1 ∷ [])
+    ∷ finds P (0x30 ∷ name007) (no 41)
+    -- 7 and a zero byte is none, though its eight places are those of 7
+    ∷ finds P (0x37 ∷ 0 ∷ []) (no 41)
+    ∷ finds P (0x20 ∷ []) (no 41)
+    -- 20 before 40 before 41
+    ∷ finds zeroSet [] (no 20)
+    ∷ finds P [] (no 40)
+    ∷ finds P (replicate 9 0) (no 40)
+    ∷ finds P (replicate 8 0x7E) (no 41)
     ∷ []

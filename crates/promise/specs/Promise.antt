@@ -15,13 +15,12 @@ use Rattle.scan.specs.declared.set.State.{State}
 use Rattle.scan.specs.Set.{stateOf, freshState, zeroSet, zeroState}
 use Rattle.scan.specs.Names.{allNameBytes}
 use Rattle.scan.specs.Shape.{wellFormed}
-use Rattle.scan.specs.Walk.{Reaches}
+use Rattle.scan.specs.Walk.{Reaches, vectorDue}
 use Rattle.shape.specs.Finding.{findOf}
 use Rattle.machine.specs.Machine.{scanOf}
 use Rattle.machine.specs.Told.{scanTold}
-use Rattle.shape.specs.FoundTold.{findTold}
+use Rattle.shape.specs.Told.{findTold}
 use Rattle.machine.specs.History.{Call, Sends, run, runState, followed, stateAfter, AllRight}
-use Rattle.scan.specs.Walk.{vectorDue}
 use Rattle.verdict.specs.Judge.{judgeOf, looseBytes}
 use Rattle.verdict.specs.Start.{startOf}
 use Rattle.verdict.specs.Told.{verdictTold}
@@ -30,8 +29,8 @@ use Rattle.header.specs.Bytes.{Bytes}
 use Rattle.loader.specs.Load.{loadOf}
 use Rattle.loader.specs.Column.{FirstFails, NoneFails, loadTests}
 use Rattle.writer.specs.Write.{writeOf, writeAnswer, bufferAfter}
-use Rattle.loader.specs.LoadTold.{loadTold}
-use Rattle.writer.specs.WriteTold.{writeTold}
+use Rattle.loader.specs.Told.{loadTold}
+use Rattle.writer.specs.Told.{writeTold}
 use Rattle.promise.specs.Allowed.{StateAllowed, SensorAllowed, RequestAllowed, wordOf, readName, outputName, LengthAllowed, NoPoint}
 use Rattle.promise.specs.Answers.{NeverTold}
 

@@ -6,8 +6,8 @@ use Prim.Native.Nat.{ℕ}
 use lib.Bits.{bitAnd, bitOr, bitXor}
 use Rattle.words.specs.Word.{meets, popcount}
 use Rattle.words.specs.Loop.{gather, some}
-use Rattle.words.proofs.Bools.{by-test}
-use Rattle.words.proofs.Loops.{gather-cong, some-cong}
+use Rattle.words.proofs.BoolLaws.{by-test}
+use Rattle.words.proofs.LoopLaws.{gather-cong, some-cong}
 use Rattle.scan.specs.declared.set.Constraint.{Constraint}
 use Rattle.scan.specs.declared.set.Set.{Set}
 use Rattle.scan.specs.Set.{constraint, kind, outs}

@@ -4,6 +4,6 @@ pub mod Shape
 pub mod Constraint
 pub mod Holds
 pub mod Pass
-pub mod Table
 pub mod Walk
 pub mod Samples
+pub mod way

@@ -1,15 +1,14 @@
 -- Names: 1 to 8 bytes in eight byte places, unused ones zero, compared byte by byte.
 -- Assumes nothing.
-use Prim.Native.Nat.{ℕ, _-_, _<_}
-use mathlib.Core.Path.{_≡_}
-use mathlib.Core.Bool.{Bool, true, false, cond, not, _&&_, _||_}
+use Prim.Native.Nat.{ℕ, _-_}
+use mathlib.Core.Bool.{Bool, cond, _&&_, _||_}
 use mathlib.Core.List.{List, [], _∷_, _++_}
 use lib.Dec.{eqb, leb, ltb}
 use lib.ListN.{length, getD, take, replicate}
 use Rattle.words.specs.Loop.{every, all, first}
 use Rattle.scan.specs.declared.set.ReadPoint.{ReadPoint}
 use Rattle.scan.specs.declared.set.OutputPoint.{OutputPoint}
-use Rattle.scan.specs.Set.{namePlaces, zeroName, readPoint, outputPoint}
+use Rattle.scan.specs.Set.{namePlaces, readPoint, outputPoint}
 
 -- a byte that a name may have
 unfoldable pub nameByte : ℕ → Bool
@@ -78,25 +77,3 @@ firstOutput outputs j name = first j (outputNamed outputs name)
 -- one of the first i read points or of the first j outputs has the name
 unfoldable pub isUsed : List ReadPoint → ℕ → List OutputPoint → ℕ → List ℕ → Bool
 isUsed reads i outputs j name = ltb (firstRead reads i name) i || ltb (firstOutput outputs j name) j
-
--- ---- the code's way: a name's places one after the other, and the names of points in a list of their own
-
--- a zero, or a name byte behind a byte that is no zero
-unfoldable pub nextOk : ℕ → ℕ → Bool
-nextOk before b = eqb b 0 || (nameByte b && not (eqb before 0))
-
--- name k of the list is the name
-unfoldable pub nameIs : List (List ℕ) → List ℕ → ℕ → Bool
-nameIs names name k = sameName (getD names k []) name
-
--- the first of the first i names that is the name, or i
-unfoldable pub firstName : List (List ℕ) → ℕ → List ℕ → ℕ
-firstName names i name = first i (nameIs names name)
-
--- the names are those of sixteen read points
-abbrev pub ReadNames : List (List ℕ) → List ReadPoint → Type 0
-ReadNames names reads = (k : ℕ) → k < 16 → getD names k [] ≡ readPoint reads k .name
-
--- the names are those of twelve outputs
-abbrev pub OutputNames : List (List ℕ) → List OutputPoint → Type 0
-OutputNames names outputs = (k : ℕ) → k < 12 → getD names k [] ≡ outputPoint outputs k .name

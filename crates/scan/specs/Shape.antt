@@ -5,10 +5,10 @@ use Prim.Native.Nat.{ℕ, _+_, _^_}
 use mathlib.Core.Bool.{Bool, true, false, cond, _&&_, _||_}
 use mathlib.Core.List.{List, [], _∷_}
 use lib.Dec.{eqb, leb, ltb}
-use lib.ListN.{length, getD}
+use lib.ListN.{length}
 use lib.Bits.{bitAnd}
 use Rattle.words.specs.Word.{bit}
-use Rattle.words.specs.Loop.{every, all, word}
+use Rattle.words.specs.Loop.{every, all}
 use Rattle.scan.specs.declared.set.Kind.{Kind}
 use Rattle.scan.specs.declared.set.Kind.the-variants.{Sensor, PastOutput, PastSensor}
 use Rattle.scan.specs.declared.set.ReadPoint.{ReadPoint}
@@ -16,7 +16,7 @@ use Rattle.scan.specs.declared.set.OutputPoint.{OutputPoint}
 use Rattle.scan.specs.declared.set.Constraint.{Constraint}
 use Rattle.scan.specs.declared.set.Set.{Set}
 use Rattle.scan.specs.Set.{mostReads, mostOutputs, mostPoints, mostConstraints, rankEnd, readPoint, outputPoint, constraint, rank, outs}
-use Rattle.scan.specs.Names.{nameOk, nameZero, firstRead, firstOutput, firstName}
+use Rattle.scan.specs.Names.{nameOk, nameZero, firstRead, firstOutput}
 
 -- ---- counts and lengths
 
@@ -57,24 +57,6 @@ readZero p = every (isSensor (p .kind) ∷ nameZero (p .name) ∷ [])
 unfoldable pub readPlace : List ReadPoint → ℕ → ℕ → ℕ → Bool
 readPlace reads r n k = let ok = readOk reads n k in let blank = readZero (readPoint reads k) in cond (ltb k r) ok blank
 
--- the code's way: the word of the sensors among sixteen read points
-abbrev pub sensorsOf : List ReadPoint → ℕ
-sensorsOf reads = word mostReads (λ k. isSensor (readPoint reads k .kind))
-
--- `kindOk`, told by that word
-unfoldable pub kindBy : ℕ → ℕ → ℕ → Kind → Bool
-kindBy sensors n k Sensor = true
-kindBy sensors n k (PastOutput i) = ltb i n
-kindBy sensors n k (PastSensor i) = ltb i k && bit i sensors
-
--- `readOk` of a read point at place k, told by the names and by that word
-unfoldable pub readBy : List (List ℕ) → ℕ → ℕ → ℕ → ReadPoint → Bool
-readBy names sensors n k p = every (kindBy sensors n k (p .kind) ∷ nameOk (p .name) ∷ eqb (firstName names k (p .name)) k ∷ [])
-
--- place k of the read points, told so
-abbrev pub readPlaceBy : List (List ℕ) → ℕ → ℕ → ℕ → ℕ → ReadPoint → Bool
-readPlaceBy names sensors r n k p = cond (ltb k r) (readBy names sensors n k p) (readZero p)
-
 -- ---- outputs
 
 -- output j: its name is right, and no read point and no earlier output has it
@@ -87,16 +69,6 @@ outputOk reads r outputs j =
 unfoldable pub outputPlace : List ReadPoint → ℕ → List OutputPoint → ℕ → ℕ → Bool
 outputPlace reads r outputs n j =
     let ok = outputOk reads r outputs j in let blank = nameZero (outputPoint outputs j .name) in cond (ltb j n) ok blank
-
--- the code's way: `outputOk`, told by the names
-unfoldable pub outputBy : List (List ℕ) → ℕ → List (List ℕ) → ℕ → Bool
-outputBy reads r outputs j =
-    let name = getD outputs j [] in
-    every (nameOk name ∷ eqb (firstName reads r name) r ∷ eqb (firstName outputs j name) j ∷ [])
-
--- place j of the outputs, told so
-abbrev pub outputPlaceBy : List (List ℕ) → ℕ → List (List ℕ) → ℕ → ℕ → Bool
-outputPlaceBy reads r outputs n j = cond (ltb j n) (outputBy reads r outputs j) (nameZero (getD outputs j []))
 
 -- ---- constraints
 

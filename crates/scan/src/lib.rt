@@ -1,5 +1,4 @@
 // The scan part of the ranked safety filter: what a set is, and the walk at a read word. It knows nothing of files and of the verdict.
-mod choice; // choices and tests as values
 mod set; // what a set and a state are made of
 mod constraint; // one constraint at a read word
 mod holds; // the outputs that simple constraints hold, and the start vector
@@ -7,10 +6,6 @@ mod pass; // which outputs of a constraint yield
 mod table; // a read word's table, and a pass and safety over it
 mod walk; // one pass after another while the vector is unsafe
 
-pub use choice::both;
-pub use choice::either;
-pub use choice::keep32;
-pub use choice::least;
 pub use holds::start_vector;
 pub use set::Constraint;
 pub use set::Kind;

@@ -1,9 +1,5 @@
 // A read word's table: the holds, the most passes of a walk and, of each combined constraint whose read literals are true at the word, what it names and what it flips.
 // A pass and the test of safety go over the table and not over the set.
-use super::choice::both;
-use super::choice::either;
-use super::choice::keep16;
-use super::choice::least;
 use super::constraint::are_reads_true;
 use super::constraint::is_combined;
 use super::holds::Holds;
@@ -15,13 +11,17 @@ use super::set::Constraint;
 use super::set::MOST_CONSTRAINTS;
 use super::set::MOST_OUTPUTS;
 use super::set::Set;
+use words::both;
+use words::either;
+use words::keep16;
+use words::least;
 ghost use mathlib.Core.Path.{_≡_};
 ghost use mathlib.Core.Bool.{cond};
 ghost use Prim.Native.Nat.{_≤_};
 ghost use lib.Dec.{eqb};
 ghost use lib.Bits.{bitAnd};
 ghost use Rattle.scan.specs.Holds.{holdsOf, unheld};
-ghost use Rattle.scan.specs.Table.{capped, active, tableUpto, tableOf, passOver, anyTrue, safeOver};
+ghost use Rattle.scan.specs.way.Table.{capped, active, tableUpto, tableOf, passOver, anyTrue, safeOver};
 
 // The entries below count: the outputs named plain, all the outputs named, and those that yield.
 pub struct Table {

@@ -3,7 +3,7 @@ use super::table::Table;
 use super::table::is_safe;
 use super::table::pass_over;
 ghost use mathlib.Core.Path.{_≡_};
-ghost use Rattle.scan.specs.Table.{safeOver, passOver};
+ghost use Rattle.scan.specs.way.Table.{safeOver, passOver};
 ghost use Rattle.scan.specs.Walk.{walkBy};
 
 // Where a walk ends: at a safe vector, with the passes made before it; or nowhere.

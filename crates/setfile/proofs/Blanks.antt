@@ -10,8 +10,8 @@ use lib.ListN.{length, getD, replicate, length-replicate, getD-replicate}
 use lib.Seq.{ext-getD}
 use borrow.Author.Tests.{eqb-true}
 use Rattle.words.specs.Loop.{all}
-use Rattle.words.proofs.Bools.{every-at}
-use Rattle.words.proofs.Loops.{all-at}
+use Rattle.words.proofs.BoolLaws.{every-at}
+use Rattle.words.proofs.LoopLaws.{all-at}
 use Rattle.scan.specs.declared.set.Kind.{Kind}
 use Rattle.scan.specs.declared.set.Kind.the-variants.{Sensor, PastOutput, PastSensor}
 use Rattle.scan.specs.declared.set.ReadPoint.{ReadPoint}

@@ -8,13 +8,13 @@ use lib.ListN.{length}
 use lib.Bits.{bitAnd}
 use borrow.Author.Tests.{eqb-true}
 use Rattle.words.specs.Word.{bit}
-use Rattle.words.proofs.Bools.{by-test, and-true, or-true}
-use Rattle.words.proofs.Bits.{bit-and, bit-or, bit-zero}
-use Rattle.words.proofs.Loops.{some-bit}
+use Rattle.words.proofs.BoolLaws.{by-test, and-true, or-true}
+use Rattle.words.proofs.BitLaws.{bit-and, bit-or, bit-zero}
+use Rattle.words.proofs.LoopLaws.{some-bit}
 use Rattle.scan.specs.declared.set.Constraint.{Constraint}
 use Rattle.scan.specs.Set.{rank, outs}
 use Rattle.scan.specs.Shape.{rankOk}
-use Rattle.scan.proofs.Formed.{Masks, outs-lt}
+use Rattle.scan.proofs.ShapeLaws.{Masks, outs-lt}
 use Rattle.setfile.proofs.Places.{by-four, mask}
 use Rattle.setfile.proofs.OneLiteral.{size}
 

@@ -11,23 +11,23 @@ use lib.ListN.{length, drop, set, length-append, length-drop, drop-of-length-le}
 use borrow.Author.Tests.{le-leb, lt-leb, leb-false, eqb-true, eq-eqb, le-ltb, ltb-false}
 use Rattle.words.specs.Word.{bit}
 use Rattle.words.specs.Loop.{every}
-use Rattle.words.proofs.Bits.{bit-above}
+use Rattle.words.proofs.BitLaws.{bit-above}
 use Rattle.scan.specs.declared.set.Constraint.{Constraint}
 use Rattle.scan.specs.declared.set.ReadPoint.{ReadPoint}
 use Rattle.scan.specs.declared.set.OutputPoint.{OutputPoint}
 use Rattle.scan.specs.declared.set.Set.{Set}
 use Rattle.scan.specs.Set.{zeroConstraint, noConstraint}
 use Rattle.scan.specs.Shape.{constraintTests}
-use Rattle.scan.proofs.Formed.{Masks, constraint-masks}
+use Rattle.scan.proofs.ShapeLaws.{Masks, constraint-masks}
 use Rattle.header.specs.declared.header.Header.{Header}
 use Rattle.header.specs.declared.header.Header.the-variants.{Refused as Stopped, Field}
-use Rattle.loader.specs.declared.literal.Literals.{Literals}
-use Rattle.loader.specs.declared.literal.Taken.{Taken}
-use Rattle.loader.specs.declared.literal.Taken.the-variants.{Refused as Failed, Next}
+use Rattle.literal.specs.declared.literal.Literals.{Literals}
+use Rattle.literal.specs.declared.literal.Taken.{Taken}
+use Rattle.literal.specs.declared.literal.Taken.the-variants.{Refused as Failed, Next}
 use Rattle.loader.specs.declared.loader.Progress.the-variants.{At}
 use Rattle.header.specs.Bytes.{Bytes}
 use Rattle.header.specs.Header.{headerOf, bodyOf, fitsTable}
-use Rattle.loader.specs.Literal.{literalsFrom, literalsOf}
+use Rattle.literal.specs.Literal.{literalsFrom, literalsOf}
 use Rattle.loader.specs.Load.{refusal, goingOn, andThen, constraintDone, constraintGiven, constraintAt, endAt, constraintsGiven, constraintsFrom}
 use Rattle.writer.specs.Write.{fieldOf, readLiteral, outputLiteral, joined, literalBody}
 use Rattle.setfile.proofs.Places.{mask}

@@ -10,13 +10,13 @@ use native.Mathlib.Omega.{arith}
 use lib.Seq.{ext-getD}
 use borrow.Author.Tests.{lt-leb}
 use Rattle.words.specs.Word.{bit}
-use Rattle.words.proofs.Bools.{by-test, clash}
-use Rattle.words.proofs.Bits.{bit-below, same-bits}
+use Rattle.words.proofs.BoolLaws.{by-test, clash}
+use Rattle.words.proofs.BitLaws.{bit-below, same-bits}
 use Rattle.scan.specs.declared.set.Constraint.{Constraint}
 use Rattle.scan.specs.Set.{rank, zeroConstraint}
-use Rattle.scan.proofs.Formed.{Masks}
-use Rattle.loader.specs.declared.literal.Taken.the-variants.{Next}
-use Rattle.loader.specs.Literal.{literalsFrom, literalsOf}
+use Rattle.scan.proofs.ShapeLaws.{Masks}
+use Rattle.literal.specs.declared.literal.Taken.the-variants.{Next}
+use Rattle.literal.specs.Literal.{literalsFrom, literalsOf}
 use Rattle.writer.specs.Write.{joined, literalBody}
 use Rattle.setfile.proofs.Places.{byte, placeOf, mask, added, alike, alike-true, unlike, bit-hit, bit-sign, bit-miss, rank-hit, rank-miss}
 use Rattle.setfile.proofs.Joins.{worth, told, literal, placed, room, placed-at, by-place, body-placed}

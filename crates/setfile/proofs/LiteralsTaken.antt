@@ -13,16 +13,16 @@ use lib.Bits.{bitAnd, and-le-r}
 use borrow.Author.Tests.{eqb-true, eq-eqb, lt-ltb, leb-true, leb-false}
 use Rattle.words.specs.Word.{bit}
 use Rattle.words.specs.Loop.{every}
-use Rattle.words.proofs.Bools.{by-test, clash, and-true, or-left, or-right, or-false}
-use Rattle.words.proofs.Bits.{bit-and, bit-or, bit-zero, no-bits}
-use Rattle.words.proofs.Loops.{all-true}
+use Rattle.words.proofs.BoolLaws.{by-test, clash, and-true, or-left, or-right, or-false}
+use Rattle.words.proofs.BitLaws.{bit-and, bit-or, bit-zero, no-bits}
+use Rattle.words.proofs.LoopLaws.{all-true}
 use Rattle.scan.specs.declared.set.Constraint.{Constraint}
 use Rattle.scan.specs.Set.{rank, outs, zeroConstraint}
 use Rattle.scan.specs.Shape.{rankOk, constraintTests}
-use Rattle.loader.specs.declared.literal.Literals.{Literals}
-use Rattle.loader.specs.declared.literal.Taken.the-variants.{Next}
+use Rattle.literal.specs.declared.literal.Literals.{Literals}
+use Rattle.literal.specs.declared.literal.Taken.the-variants.{Next}
 use Rattle.header.specs.Bytes.{Bytes}
-use Rattle.loader.specs.Literal.{isOutput, isNegated, number, place, isLiteral, withLiteral, refusedLiterals, literalThen, literalsFrom, literalsOf}
+use Rattle.literal.specs.Literal.{isOutput, isNegated, number, place, isLiteral, withLiteral, refusedLiterals, literalThen, literalsFrom, literalsOf}
 use Rattle.writer.specs.Write.{joined, literalBody}
 use Rattle.setfile.proofs.Places.{byte, byte-is, placeOf, place-says, mask, added, with-added, alike, alike-true, bit-hit, bit-sign, bit-else, bit-miss, rank-hit, rank-miss}
 use Rattle.setfile.proofs.Joins.{room, placed, body-placed, joined-same}

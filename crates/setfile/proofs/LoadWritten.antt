@@ -11,8 +11,7 @@ use Rattle.words.specs.Loop.{every}
 use Rattle.scan.specs.declared.set.Set.{Set}
 use Rattle.scan.specs.Set.{zeroSet, zeroConstraint, noConstraint, readPoint, outputPoint, constraint}
 use Rattle.scan.specs.Shape.{countTests, constraintTests, wellFormed}
-use Rattle.scan.proofs.Formed.{constraint-ok, counts, beyond-zero}
-use Rattle.scan.proofs.Points.{points-formed}
+use Rattle.scan.proofs.ShapeLaws.{constraint-ok, counts, beyond-zero, points-formed}
 use Rattle.loader.specs.declared.loader.LoadAnswer.the-variants.{Loaded}
 use Rattle.loader.specs.declared.loader.Loading.{Loading}
 use Rattle.loader.specs.Load.{goingOn, andThen, refusal, withCounts, countsGiven, countsAt, constraintsFrom, afterCounts, afterReads, afterOutputs, answerOf, loadFrom, loadOf}

@@ -10,14 +10,13 @@ use lib.Dec.{ltb}
 use lib.ListN.{length, getD, replicate, getD-replicate, List·getD-append}
 use lib.Seq.{getD-append-add}
 use borrow.Author.Tests.{lt-ltb, le-ltb, eq-eqb}
-use Rattle.words.proofs.Bools.{cond-true, cond-false}
-use Rattle.words.proofs.Loops.{all-true, all-at}
+use Rattle.words.proofs.BoolLaws.{cond-true, cond-false}
+use Rattle.words.proofs.LoopLaws.{all-true, all-at}
 use Rattle.shape.specs.declared.names.NameRead.{NameRead}
 use Rattle.scan.specs.Names.{nameByte, allNameBytes, padded, lengthOk, zeroAt, nameLength, nameBytes, placeOk, nameOk}
 use Rattle.shape.specs.NameRead.{nameRead}
-use Rattle.scan.proofs.Points.{name-formed}
-use Rattle.shape.proofs.Finds.{spell-name}
-use Rattle.scan.proofs.Naming.{bytes-long, bytes-named, padded-bytes, padded-long, length-padded, bytes-padded}
+use Rattle.scan.proofs.NamesLaws.{name-formed, bytes-long, bytes-named, padded-bytes, padded-long, length-padded, bytes-padded}
+use Rattle.shape.proofs.NameReadLaws.{spell-name}
 
 -- A well-formed name has 1 to 8 bytes.
 pub name-bounds : (name : List ℕ) → nameOk name ≡ true → (1 ≤ length (nameBytes name)) × (length (nameBytes name) ≤ 8)

@@ -10,11 +10,11 @@ use lib.ListN.{length, getD-replicate}
 use lib.Pow.{pow-pos}
 use borrow.Author.Tests.{eqb-true, eq-eqb, ltb-true, lt-ltb, le-leb}
 use Rattle.words.specs.Word.{bit}
-use Rattle.words.proofs.Bools.{and-true}
-use Rattle.words.proofs.Bits.{bit-zero}
+use Rattle.words.proofs.BoolLaws.{and-true}
+use Rattle.words.proofs.BitLaws.{bit-zero}
 use Rattle.scan.specs.declared.set.Constraint.{Constraint}
 use Rattle.scan.specs.Set.{rank, zeroConstraint}
-use Rattle.loader.specs.Literal.{isOutput, spare, number, place, isLiteral, withLiteral, literalThen, literalsFrom}
+use Rattle.literal.specs.Literal.{isOutput, spare, number, place, isLiteral, withLiteral, literalThen, literalsFrom}
 use Rattle.writer.specs.Write.{literalBody}
 use Rattle.setfile.proofs.Places.{by-four, byte, placeOf, Says, byte-says, place-says, mask, added, with-added, alike-true, bit-hit, bit-sign, bit-miss, mask-wide, rank-hit, rank-miss, ranks-added}
 use Rattle.setfile.proofs.Joins.{worth, told, literal, placed, room, placed-at, by-place, joined-add, body-placed}

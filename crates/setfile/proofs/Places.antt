@@ -11,11 +11,11 @@ use lib.Bits.{or-lt}
 use lib.Pow.{pow-lt, shr-shr}
 use borrow.Author.Tests.{eqb-true, eqb-false, eq-eqb, ne-eqb}
 use Rattle.words.specs.Word.{bit}
-use Rattle.words.proofs.Bools.{by-test, and-true, or-right}
-use Rattle.words.proofs.Bits.{bit-or, bit-pow}
+use Rattle.words.proofs.BoolLaws.{by-test, and-true, or-right}
+use Rattle.words.proofs.BitLaws.{bit-or, bit-pow}
 use Rattle.scan.specs.declared.set.Constraint.{Constraint}
 use Rattle.scan.specs.Set.{rank}
-use Rattle.loader.specs.Literal.{isOutput, isNegated, spare, number, place, withBit, withLiteral}
+use Rattle.literal.specs.Literal.{isOutput, isNegated, spare, number, place, withBit, withLiteral}
 
 -- a statement about two truth values
 pub by-four : (P : Bool → Bool → Type 0) → P true true → P true false → P false true → P false false → (a b : Bool) → P a b

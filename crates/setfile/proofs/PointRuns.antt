@@ -10,7 +10,7 @@ use native.Mathlib.Omega.{arith}
 use lib.Dec.{leb, eqb}
 use lib.ListN.{length, getD, take, drop, set}
 use borrow.Author.Tests.{eq-eqb}
-use Rattle.words.proofs.Bools.{or-left}
+use Rattle.words.proofs.BoolLaws.{or-left}
 use Rattle.scan.specs.declared.set.Set.{Set}
 use Rattle.header.specs.declared.header.Header.{Header}
 use Rattle.header.specs.declared.header.Header.the-variants.{Refused as Stopped, Field}

@@ -7,8 +7,8 @@ use Prim.Native.Nat.{ℕ, _<_}
 use native.Mathlib.Omega.{arith}
 use lib.Dec.{ltb}
 use borrow.Author.Tests.{ltb-true, ltb-false, le-ltb, eq-eqb}
-use Rattle.words.proofs.Bools.{and-true, or-false}
-use Rattle.words.proofs.Loops.{first-cong, first-spec}
+use Rattle.words.proofs.BoolLaws.{and-true, or-false}
+use Rattle.words.proofs.LoopLaws.{first-cong, first-spec}
 use Rattle.scan.specs.declared.set.Kind.{Kind}
 use Rattle.scan.specs.declared.set.Kind.the-variants.{Sensor, PastOutput, PastSensor}
 use Rattle.scan.specs.declared.set.ReadPoint.{ReadPoint}
@@ -16,7 +16,7 @@ use Rattle.scan.specs.declared.set.OutputPoint.{OutputPoint}
 use Rattle.scan.specs.Set.{readPoint, outputPoint}
 use Rattle.scan.specs.Names.{nameOk, sameName, readNamed, firstRead, outputNamed, firstOutput, isUsed}
 use Rattle.scan.specs.Shape.{isSensor, kindOk, readOk, outputOk}
-use Rattle.scan.proofs.Points.{read-formed, output-formed}
+use Rattle.scan.proofs.ShapeLaws.{read-formed, output-formed}
 
 -- ---- points that fit
 

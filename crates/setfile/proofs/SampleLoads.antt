@@ -10,7 +10,7 @@ use Rattle.scan.specs.Shape.{countTests}
 use Rattle.scan.specs.Samples.{P}
 use Rattle.loader.specs.declared.loader.LoadAnswer.the-variants.{Loaded}
 use Rattle.header.specs.Header.{headerOf}
-use Rattle.loader.specs.Literal.{withLiteral, literalsFrom}
+use Rattle.literal.specs.Literal.{withLiteral, literalsFrom}
 use Rattle.loader.specs.Load.{countsAt, kindOf, readField, readAt, readsFrom, outputField, outputAt, outputsFrom, constraintAt, constraintsFrom, loadFrom, loadOf}
 use Rattle.writer.specs.Write.{readLiteral, outputLiteral, joined, literalBody, fieldsOf, writeOf}
 use Rattle.setfile.specs.SampleFile.{fileP}

@@ -10,8 +10,8 @@ use lib.Dec.{ltb}
 use lib.ListN.{length, getD}
 use borrow.Author.Tests.{eq-eqb, lt-ltb, le-ltb, le-leb, leb-true}
 use Rattle.words.specs.Loop.{every, all}
-use Rattle.words.proofs.Bools.{every-at, cond-true, cond-false}
-use Rattle.words.proofs.Loops.{all-true}
+use Rattle.words.proofs.BoolLaws.{every-at, cond-true, cond-false}
+use Rattle.words.proofs.LoopLaws.{all-true}
 use Rattle.scan.specs.declared.set.OutputPoint.{OutputPoint}
 use Rattle.scan.specs.declared.set.Set.{Set}
 use Rattle.scan.specs.Set.{zeroRead, zeroOutput, zeroConstraint, readPoint, outputPoint, constraint, noRead, noOutput, noConstraint}

@@ -10,8 +10,8 @@ use lib.ListN.{length, getD, take, length-take}
 use lib.Seq.{getD-take}
 use borrow.Author.Tests.{ltb-true, leb-true}
 use Rattle.words.specs.Word.{bit}
-use Rattle.words.proofs.Bools.{and-true}
-use Rattle.words.proofs.Loops.{all-at}
+use Rattle.words.proofs.BoolLaws.{and-true}
+use Rattle.words.proofs.LoopLaws.{all-at}
 use Rattle.scan.specs.declared.set.Kind.{Kind}
 use Rattle.scan.specs.declared.set.Kind.the-variants.{Sensor, PastOutput, PastSensor}
 use Rattle.scan.specs.declared.set.ReadPoint.{ReadPoint}
@@ -20,14 +20,13 @@ use Rattle.scan.specs.declared.set.Set.{Set}
 use Rattle.scan.specs.Set.{readPoint, outputPoint, constraint, noRead, noOutput, noConstraint}
 use Rattle.scan.specs.Names.{nameByte, allNameBytes, nameBytes, nameOk}
 use Rattle.scan.specs.Shape.{isSensor, kindOk, wellFormed}
-use Rattle.scan.proofs.Formed.{Masks, rank-lt, counts, masks}
-use Rattle.scan.proofs.Points.{name-formed, points-formed}
+use Rattle.scan.proofs.ShapeLaws.{Masks, rank-lt, counts, masks, points-formed}
+use Rattle.scan.proofs.NamesLaws.{name-formed, bytes-named}
 use Rattle.header.specs.Bytes.{Bytes}
 use Rattle.writer.specs.Write.{fieldOf, kindBytes, readBody, outputBody, readLiteral, outputLiteral, joined, literalBody, fieldsOf, writeOf}
 use Rattle.setfile.proofs.Places.{byte, mask, by-four}
 use Rattle.setfile.proofs.Joins.{worth, told, literal}
 use Rattle.header.proofs.HeaderLaws.{table-bounds}
-use Rattle.scan.proofs.Naming.{bytes-named}
 use Rattle.setfile.proofs.PointsFit.{read-fits, output-fits}
 use Rattle.setfile.proofs.PointKinds.{reads-give, outputs-give}
 use Rattle.setfile.proofs.ConstraintRuns.{body-fits}

@@ -9,8 +9,8 @@ use lib.Dec.{leb, ltb}
 use lib.ListN.{length}
 use borrow.Author.Tests.{leb-true, ltb-true, ltb-false}
 use Rattle.words.specs.Loop.{first}
-use Rattle.words.proofs.Bools.{by-test, clash, and-true}
-use Rattle.words.proofs.Loops.{first-is, first-spec}
+use Rattle.words.proofs.BoolLaws.{by-test, clash, and-true}
+use Rattle.words.proofs.LoopLaws.{first-is, first-spec}
 use Rattle.scan.specs.declared.set.Set.{Set}
 use Rattle.shape.specs.declared.finding.Found.{Found}
 use Rattle.shape.specs.declared.finding.Found.the-variants.{Read, Output, BadSet, BadLength, Unknown}
@@ -18,9 +18,9 @@ use Rattle.scan.specs.Set.{readPoint, outputPoint}
 use Rattle.scan.specs.Names.{lengthOk, allNameBytes, padded, nameBytes, nameOk, sameName, readNamed, firstRead, outputNamed, firstOutput}
 use Rattle.scan.specs.Shape.{wellFormed}
 use Rattle.shape.specs.Finding.{findPadded, findOf}
-use Rattle.shape.proofs.Finds.{find-read, find-output, find-none, find-bad, find-length, find-strange, find-named}
-use Rattle.scan.proofs.Points.{name-formed, read-formed, output-formed, points-formed}
-use Rattle.scan.proofs.Naming.{bytes-long, bytes-named, padded-bytes, name-same, same-name, bytes-padded, padded-long}
+use Rattle.shape.proofs.FindingLaws.{find-read, find-output, find-none, find-bad, find-length, find-strange, find-named}
+use Rattle.scan.proofs.NamesLaws.{name-formed, bytes-long, bytes-named, padded-bytes, name-same, same-name, bytes-padded, padded-long}
+use Rattle.scan.proofs.ShapeLaws.{read-formed, output-formed, points-formed}
 
 -- ---- a point is found under its name
 

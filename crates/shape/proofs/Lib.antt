@@ -1,3 +1,5 @@
-pub mod NameLists
-pub mod Finds
+pub mod NamesWayLaws
+pub mod ShapeWayLaws
+pub mod NameReadLaws
+pub mod FindingLaws
 pub mod FoundPoints

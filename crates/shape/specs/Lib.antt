@@ -1,3 +1,4 @@
 pub mod NameRead
 pub mod Finding
-pub mod FoundTold
+pub mod Told
+pub mod way

@@ -5,16 +5,17 @@ use scan::NAME_PLACES;
 use scan::OutputPoint;
 use scan::ReadPoint;
 use scan::Set;
-use scan::both;
-use scan::either;
-use scan::least;
+use words::both;
+use words::either;
+use words::least;
 ghost use mathlib.Core.Path.{_≡_};
 ghost use mathlib.Core.Bool.{false};
 ghost use Prim.Native.Nat.{_≤_, min};
 ghost use lib.ListN.{length};
 ghost use Rattle.shape.specs.declared.names.NameRead.{NameRead};
 ghost use Rattle.scan.specs.Set.{zeroName};
-ghost use Rattle.scan.specs.Names.{nameByte, allNameBytes, padded, nextOk, nameOk, nameZero, sameName, firstRead, firstOutput, isUsed, firstName, ReadNames, OutputNames};
+ghost use Rattle.scan.specs.Names.{nameByte, allNameBytes, padded, nameOk, nameZero, sameName, firstRead, firstOutput, isUsed};
+ghost use Rattle.shape.specs.way.Names.{nextOk, firstName, ReadNames, OutputNames};
 ghost use Rattle.shape.specs.NameRead.{nameRead};
 
 // Whether a name may have the byte.

@@ -15,15 +15,16 @@ use scan::NAME_PLACES;
 use scan::OutputPoint;
 use scan::ReadPoint;
 use scan::Set;
-use scan::both;
-use scan::either;
-use scan::keep32;
+use words::both;
+use words::either;
+use words::keep32;
 ghost use mathlib.Core.Path.{_≡_};
 ghost use mathlib.Core.Bool.{cond};
 ghost use Prim.Native.Nat.{_≤_, _<_};
 ghost use Rattle.words.specs.Loop.{every, all};
-ghost use Rattle.scan.specs.Names.{ReadNames};
-ghost use Rattle.scan.specs.Shape.{countTests, isSensor, sensorsOf, kindBy, readBy, readZero, readPlaceBy, readPlace, outputBy, outputPlaceBy, rankOk, rankZero, constraintTests, constraintZero, constraintPlace, wellFormed};
+ghost use Rattle.shape.specs.way.Names.{ReadNames};
+ghost use Rattle.scan.specs.Shape.{countTests, isSensor, readZero, readPlace, rankOk, rankZero, constraintTests, constraintZero, constraintPlace, wellFormed};
+ghost use Rattle.shape.specs.way.Shape.{sensorsOf, kindBy, readBy, readPlaceBy, outputBy, outputPlaceBy};
 
 fn are_counts_ok(r: usize, n: usize, m: usize) -> bool
     ensures { λ x. ⌜ x ≡ every (countTests r n m) ⌝ }

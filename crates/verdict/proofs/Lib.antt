@@ -1,5 +1,5 @@
-pub mod MarkLaws
-pub mod Verdicts
-pub mod WordMarks
 pub mod JudgeLaws
-pub mod AlikeSets
+pub mod MeaningLaws
+pub mod MarksLaws
+pub mod WordMarks
+pub mod JudgeAlike

@@ -13,23 +13,23 @@ use lib.ListN.{length, getD, set, length-set, List·getD-append, List·getD-eq-d
 use lib.Seq.{getD-set-same, getD-set-other, getD-append-add}
 use lib.Pow.{pow-pos}
 use Rattle.words.specs.Loop.{some, iterate}
-use Rattle.words.proofs.Bools.{by-test, clash}
-use Rattle.words.proofs.Loops.{below-suc, some-at, some-false-at}
+use Rattle.words.proofs.BoolLaws.{by-test, clash}
+use Rattle.words.proofs.LoopLaws.{below-suc, some-at, some-false-at}
 use Rattle.scan.specs.declared.set.Set.{Set}
 use Rattle.scan.specs.Shape.{wellFormed}
 use Rattle.scan.specs.Constraint.{safe}
 use Rattle.scan.specs.declared.table.Table.{Table}
 use Rattle.scan.specs.Holds.{unheldCount, passLimit, startFrom, startVector}
-use Rattle.scan.specs.Table.{tableOf}
+use Rattle.scan.specs.way.Table.{tableOf}
 use Rattle.scan.specs.Pass.{pass}
 use Rattle.scan.specs.Walk.{after, Reaches}
-use Rattle.scan.proofs.Masks.{start-lt}
-use Rattle.scan.proofs.Passes.{pass-lt, after-lt}
-use Rattle.scan.proofs.Tables.{safeIn, passIn, table-safe, table-pass, table-start, table-limit}
-use Rattle.scan.proofs.Walks.{ReachesFrom, safe-reaches, meets-reaches, reaches-on, reaches-after, walk-due, walk-never}
+use Rattle.scan.proofs.HoldsLaws.{start-lt}
+use Rattle.scan.proofs.PassLaws.{pass-lt, after-lt}
+use Rattle.scan.proofs.TableLaws.{safeIn, passIn, table-safe, table-pass, table-start, table-limit}
+use Rattle.scan.proofs.WalkLaws.{ReachesFrom, safe-reaches, meets-reaches, reaches-on, reaches-after, walk-due, walk-never}
 use Rattle.verdict.specs.Judge.{hasVector, isNever, endless}
-use Rattle.verdict.specs.Marks.{marked, markedWhere, comesToMark, pathMarked, settled}
-use Rattle.verdict.proofs.MarkLaws.{where-length}
+use Rattle.verdict.specs.way.Marks.{marked, markedWhere, comesToMark, pathMarked, settled}
+use Rattle.verdict.proofs.MarksLaws.{where-length}
 
 -- a byte for each vector; a mark says that passes lead to a safe vector; every safe vector is marked
 pub record Ready (s : Set) (w : ℕ) (marks : List ℕ) : Type 0 where

@@ -2,4 +2,4 @@ pub mod Judge
 pub mod Start
 pub mod Told
 pub mod Meaning
-pub mod Marks
+pub mod way

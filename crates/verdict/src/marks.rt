@@ -1,13 +1,14 @@
 // Marks at one read word: a byte of scratch for each vector, 1 where passes from the vector are known to lead to a safe one.
 use scan::is_safe;
 use scan::pass_over;
+use words::either;
 ghost use mathlib.Core.Path.{_≡_};
-ghost use mathlib.Core.Bool.{cond, _||_};
+ghost use mathlib.Core.Bool.{cond};
 ghost use Prim.Native.Nat.{_≤_};
 ghost use lib.ListN.{length, set};
 ghost use Rattle.words.specs.Loop.{some};
-ghost use Rattle.scan.specs.Table.{safeOver, passOver};
-ghost use Rattle.verdict.specs.Marks.{marked, markedWhere, comesToMark, pathMarked, settled};
+ghost use Rattle.scan.specs.way.Table.{safeOver, passOver};
+ghost use Rattle.verdict.specs.way.Marks.{marked, markedWhere, comesToMark, pathMarked, settled};
 
 const MARK: u8 = 1;
 
@@ -38,13 +39,6 @@ fn mark_if(test: bool) -> u8
     ensures { λ r. ⌜ r ≡ cond test 1 0 ⌝ }
 {
     if test { MARK } else { 0 }
-}
-
-// Whether one of the two tests passed.
-fn either(a: bool, b: bool) -> bool
-    ensures { λ r. ⌜ r ≡ (a || b) ⌝ }
-{
-    if a { true } else { b }
 }
 
 // Marks the safe vectors and no others; whether there is one.

@@ -1,8 +1,8 @@
-pub mod Bools
-pub mod Bits
-pub mod Loops
-pub mod Steps
-pub mod Counts
+pub mod BoolLaws
+pub mod ListLaws
+pub mod BitLaws
+pub mod PopcountLaws
+pub mod ShiftLaws
+pub mod LoopLaws
+pub mod LoopTurns
 pub mod Orbit
-pub mod Shifts
-pub mod Rounds

@@ -14,9 +14,9 @@ use lib.Count.{onesIn}
 use borrow.Author.Tests.{ltb-true, ltb-false}
 use Rattle.words.specs.Word.{odd, bit}
 use Rattle.words.specs.Loop.{iterate}
-use Rattle.words.proofs.Bits.{by-digit, digit-lt, bit-half, bit-lowest, from-halves, half-lt, odd-mod, odd-one}
-use Rattle.words.proofs.Bools.{by-test, clash}
-use Rattle.words.proofs.Loops.{below-suc}
+use Rattle.words.proofs.BitLaws.{by-digit, digit-lt, bit-half, bit-lowest, from-halves, half-lt, odd-mod, odd-one}
+use Rattle.words.proofs.BoolLaws.{by-test, clash}
+use Rattle.words.proofs.LoopLaws.{below-suc}
 
 -- ---- the pigeonhole
 

@@ -1,2 +1,2 @@
-pub mod LiteralBytes
+pub mod LiteralBodyLaws
 pub mod WriteLaws

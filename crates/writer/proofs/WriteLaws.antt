@@ -19,8 +19,9 @@ use Rattle.scan.specs.declared.set.Set.{Set}
 use Rattle.scan.specs.Set.{noRead, noOutput, noConstraint}
 use Rattle.scan.specs.Names.{zeroAt, nameLength, nameBytes}
 use Rattle.scan.specs.Shape.{wellFormed}
-use Rattle.scan.proofs.Formed.{counts, lengths}
-use Rattle.writer.specs.Write.{fieldOf, kindBytes, readBody, outputBody, joined, literalBody, fieldsOf, writeOf, writeAnswer, bufferAfter, readFields, outputFields, constraintFields, putAt, Put}
+use Rattle.scan.proofs.ShapeLaws.{counts, lengths}
+use Rattle.writer.specs.Write.{fieldOf, kindBytes, readBody, outputBody, joined, literalBody, fieldsOf, writeOf, writeAnswer, bufferAfter}
+use Rattle.writer.specs.way.Write.{readFields, outputFields, constraintFields, putAt, Put}
 use Rattle.writer.specs.declared.writer.Written.the-variants.{Wrote, BadSet, Short}
 
 -- ---- bytes in a buffer

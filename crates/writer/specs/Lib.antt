@@ -1,2 +1,3 @@
 pub mod Write
-pub mod WriteTold
+pub mod Told
+pub mod way

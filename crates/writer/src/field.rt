@@ -17,7 +17,8 @@ ghost use Rattle.words.specs.Loop.{every};
 ghost use Rattle.scan.specs.Set.{outs};
 ghost use Rattle.scan.specs.Names.{nameBytes};
 ghost use Rattle.scan.specs.Shape.{constraintTests};
-ghost use Rattle.writer.specs.Write.{fieldOf, kindBytes, readBody, outputBody, readLiteral, outputLiteral, joined, literalBody, Put};
+ghost use Rattle.writer.specs.Write.{fieldOf, kindBytes, readBody, outputBody, readLiteral, outputLiteral, joined, literalBody};
+ghost use Rattle.writer.specs.way.Write.{Put};
 
 // How many bytes the name has: those before the first zero.
 pub fn name_length(name: [u8; 8]) -> usize

@@ -14,7 +14,8 @@ ghost use mathlib.Core.Bool.{true};
 ghost use Prim.Native.Nat.{_+_, _≤_};
 ghost use lib.ListN.{length};
 ghost use Rattle.scan.specs.Shape.{wellFormed};
-ghost use Rattle.writer.specs.Write.{writeOf, writeAnswer, bufferAfter, readFields, outputFields, constraintFields, putAt, Put};
+ghost use Rattle.writer.specs.Write.{writeOf, writeAnswer, bufferAfter};
+ghost use Rattle.writer.specs.way.Write.{readFields, outputFields, constraintFields, putAt, Put};
 
 // The length of the file; or that the set is not well formed; or the length needed, where the buffer is shorter.
 pub enum Written {

@@ -4,7 +4,7 @@ use Prim.Native.Nat.{ℕ, _/_, _^_}
 use lib.Dec.{eqb}
 use lib.Bits.{and-mask}
 use Rattle.words.specs.Word.{bit, odd}
-use Rattle.words.proofs.Bits.{bit-above}
+use Rattle.words.proofs.BitLaws.{bit-above}
 use borrow.Author.Needs.{needs}
 use Rattle.words.proofs.bit32.Statement.{statement}
 use Rattle.words.proofs.bit32.Tie as tie

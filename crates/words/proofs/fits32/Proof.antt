@@ -5,7 +5,7 @@ use native.Mathlib.Omega.{arith}
 use lib.Dec.{ltb}
 use lib.Pow.{pow-mono}
 use borrow.Author.Tests.{lt-ltb}
-use Rattle.words.proofs.Shifts.{one-shl}
+use Rattle.words.proofs.ShiftLaws.{one-shl}
 use borrow.Author.Needs.{needs}
 use Rattle.words.proofs.fits32.Statement.{statement}
 use Rattle.words.proofs.fits32.Tie as tie

@@ -3,7 +3,7 @@ use mathlib.Core.Path.{sym, ap, _∙_}
 use Prim.Native.Nat.{ℕ, _-_, _^_}
 use native.Mathlib.Nat.{min-eq-left, min-eq-right}
 use native.Mathlib.Omega.{arith}
-use Rattle.words.proofs.Shifts.{one-shl-pos, one-shl-sub}
+use Rattle.words.proofs.ShiftLaws.{one-shl-pos, one-shl-sub}
 use borrow.Author.Needs.{needs}
 use Rattle.words.proofs.low16.Statement.{statement}
 use Rattle.words.proofs.low16.Tie as tie

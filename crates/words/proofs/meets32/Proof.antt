@@ -1,5 +1,5 @@
 -- `words::meets32` meets its contract. Assumes nothing.
-use Rattle.words.proofs.Bits.{meets-rest, meets-not}
+use Rattle.words.proofs.BitLaws.{meets-rest, meets-not}
 use Rattle.words.proofs.meets32.Statement.{statement}
 use Rattle.words.proofs.meets32.Tie as tie
 

@@ -1,5 +1,5 @@
 -- `words::ones16` meets its contract. Assumes nothing.
-use Rattle.words.proofs.Counts.{ones-popcount}
+use Rattle.words.proofs.PopcountLaws.{ones-popcount}
 use Rattle.words.proofs.ones16.Statement.{statement}
 use Rattle.words.proofs.ones16.Tie as tie
 

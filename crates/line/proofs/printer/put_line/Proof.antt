@@ -4,8 +4,8 @@ use native.Mathlib.Omega.{arith}
 use lib.ListN.{length}
 use lib.Seq.{length-take-le}
 use denote.Ref.{now}
-use Rattle.scan.proofs.Shapes.{mapped-long}
-use Rattle.writer.specs.Write.{putAt}
+use Rattle.words.proofs.ListLaws.{mapped-long}
+use Rattle.writer.specs.way.Write.{putAt}
 use Rattle.line.specs.Line.{lineBytes}
 use Rattle.line.proofs.LineLaws.{too-short, printed}
 use borrow.Author.Needs.{needs}

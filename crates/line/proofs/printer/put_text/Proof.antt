@@ -7,8 +7,8 @@ use native.Mathlib.Omega.{arith}
 use lib.ListN.{length, getD, take, set}
 use lib.Seq.{length-take-le}
 use denote.Ref.{now}
-use Rattle.scan.proofs.Shapes.{mapped-long}
-use Rattle.writer.specs.Write.{putAt}
+use Rattle.words.proofs.ListLaws.{mapped-long}
+use Rattle.writer.specs.way.Write.{putAt}
 use Rattle.writer.proofs.WriteLaws.{put-nothing, put-kept}
 use Rattle.line.proofs.LineLaws.{put-front}
 use Rattle.line.proofs.printer.put_text.Statement.{statement}

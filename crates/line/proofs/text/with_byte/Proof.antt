@@ -2,7 +2,7 @@
 use mathlib.Core.Path.{_≡_, refl}
 use native.Mathlib.Omega.{arith}
 use lib.ListN.{length}
-use Rattle.scan.proofs.Shapes.{mapped-long}
+use Rattle.words.proofs.ListLaws.{mapped-long}
 use Rattle.line.proofs.TextLaws.{byte-more}
 use borrow.Author.Needs.{needs}
 use Rattle.line.proofs.text.with_byte.Statement.{statement}

@@ -6,7 +6,7 @@ use mathlib.Core.List.{List, _++_}
 use Prim.Native.Nat.{ℕ, _+_, _-_, _≤_}
 use native.Mathlib.Omega.{arith}
 use lib.ListN.{length, drop}
-use Rattle.scan.proofs.Shapes.{mapped-long}
+use Rattle.words.proofs.ListLaws.{mapped-long}
 use Rattle.line.specs.Line.{decimal, textBytes}
 use Rattle.line.proofs.TextLaws.{rest-more, rest-none, spaced-made}
 use Rattle.line.proofs.text.with_number.Statement.{statement}

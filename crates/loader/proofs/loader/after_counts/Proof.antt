@@ -2,7 +2,7 @@
 use mathlib.Core.Path.{_∙_}
 use denote.Ref.{now}
 use Rattle.loader.specs.Load.{afterReads, readAt, readsFrom}
-use Rattle.loader.proofs.Keeps.{still-range, read-row, row-keeps, stays, goes}
+use Rattle.loader.proofs.LoadKeeps.{still-range, read-row, row-keeps, stays, goes}
 use borrow.Author.Needs.{needs}
 use Rattle.loader.proofs.loader.after_counts.Statement.{statement}
 use Rattle.loader.proofs.loader.after_counts.Tie as tie
@@ -18,7 +18,7 @@ enum-known-p c = search needs
 
 after-reads-requires : tie.Need-after-reads-requires
 after-reads-requires c κs =
-    let p = c .before .before in
+    let p = c .before in
     let f = p .before .before in
     let s = f .before .before in
     let a = s .args in
@@ -33,7 +33,7 @@ returns c =
 
 returns-2 : tie.Need-returns-2
 returns-2 c =
-    let p = c .before .before .before in
+    let p = c .before .before in
     let f = p .before .before in
     let a = f .before .before .args in
     c .after-reads .ensures ∙ goes (f .reads-at .result) _ (afterReads (now (a .s))) (f .reads-at .ensures) _ (p .p .given .1)

@@ -2,7 +2,7 @@
 use mathlib.Core.Path.{_∙_}
 use denote.Ref.{now}
 use Rattle.loader.specs.Load.{afterOutputs, outputAt, outputsFrom}
-use Rattle.loader.proofs.Keeps.{still-range, output-row, row-keeps, stays, goes}
+use Rattle.loader.proofs.LoadKeeps.{still-range, output-row, row-keeps, stays, goes}
 use borrow.Author.Needs.{needs}
 use Rattle.loader.proofs.loader.after_reads.Statement.{statement}
 use Rattle.loader.proofs.loader.after_reads.Tie as tie
@@ -18,7 +18,7 @@ enum-known-p c = search needs
 
 constraints-at-requires : tie.Need-constraints-at-requires
 constraints-at-requires c κs =
-    let p = c .before .before in
+    let p = c .before in
     let f = p .before .before in
     let s = f .before .before in
     let a = s .args in
@@ -34,7 +34,7 @@ returns c =
 
 returns-2 : tie.Need-returns-2
 returns-2 c =
-    let p = c .before .before .before in
+    let p = c .before .before in
     let f = p .before .before in
     let a = f .before .before .args in
     c .constraints-at .ensures ∙ goes (f .outputs-at .result) _ (afterOutputs (now (a .s))) (f .outputs-at .ensures) _ (p .p .given .1)

@@ -1,5 +1,5 @@
 -- `loader::loader::constraints_at` meets its contract. The loop's invariant: the fields from here on, on the set so far, give what all of them give on the set at the start. Assumes nothing.
-use mathlib.Core.Path.{_≡_, refl, sym, _∙_, ap}
+use mathlib.Core.Path.{_≡_, refl, sym, ap, _∙_}
 use Prim.Native.Nat.{_+_, _-_, _%_, _≤_, _<_}
 use native.Mathlib.Omega.{arith}
 use lib.ListN.{length, drop}
@@ -8,8 +8,8 @@ use Rattle.header.specs.declared.header.Header.the-variants.{Field}
 use Rattle.header.specs.Header.{headerOf}
 use Rattle.loader.specs.Load.{refusal, goingOn, withConstraint, constraintsFrom}
 use Rattle.header.proofs.HeaderLaws.{field-within, constraint-length, front-place, front-header}
-use Rattle.loader.proofs.LoadLaws.{body-long, constraint-done}
-use Rattle.loader.proofs.Keeps.{constraints-stopped, bytes-follow, constraints-end, constraints-stay, constraints-go}
+use Rattle.loader.proofs.LoadLaws.{constraint-done}
+use Rattle.loader.proofs.LoadKeeps.{constraints-stopped, bytes-follow, constraints-end, constraints-stay, constraints-go}
 use borrow.Author.Needs.{needs}
 use Rattle.loader.proofs.loader.constraints_at.Statement.{statement}
 use Rattle.loader.proofs.loader.constraints_at.Tie as tie
@@ -118,10 +118,7 @@ part-literals-of-end : tie.Need-part-literals-of-end Inv-loop μ-loop
 part-literals-of-end c = whole (c .before)
 
 literals-of-requires : tie.Need-literals-of-requires Inv-loop μ-loop
-literals-of-requires c κs =
-    let k = c .before .before in
-    let h = k .before .before .before in
-    (ap (λ x. x % 2) (body-long (now (h .before .before .before .args .s)) _ _ (whole k)) ∙ limits (c .before) .1, h .before .loop .inv .0)
+literals-of-requires c κs = search needs
 
 enum-known-taken : tie.Need-enum-known-taken Inv-loop μ-loop
 enum-known-taken c = search needs
@@ -139,7 +136,7 @@ returns-4 c =
     let s = now (h .before .before .before .args .s) in
     c .refused3 .ensures
     ∙ constraints-stay s _ (h .front-at .result .at) (l .so-far) (l .inv .1) (so-far h) _ _ (here k) (e .if1 .left) (refusal _ (h .front-at .result .at))
-    (sym (constraint-done s _ _ (l .so-far) (f .literals-of .result) _ (f .literals-of .ensures) (c .before .before .taken .given .1))) _ _ refl
+    (sym (constraint-done s _ _ (l .so-far) (f .literals-of .result) _ (l .inv .0) (f .literals-of .ensures) (c .before .before .taken .given .1))) _ _ refl
 
 enum-told : tie.Need-enum-told Inv-loop μ-loop
 enum-told c = search needs
@@ -173,7 +170,7 @@ loop-again c =
       l .inv .0,
       omega (arith, limits e),
       constraints-go s _ (h .front-at .result .at) (l .so-far) (l .inv .1) (so-far h) _ _ (here k) (e .if1 .left) (goingOn _ (withConstraint (l .so-far) (f .literals-of .result .made)))
-          (sym (constraint-done s _ _ (l .so-far) (f .literals-of .result) _ (f .literals-of .ensures) (c .before .enum-told .given .1))) _ refl,
+          (sym (constraint-done s _ _ (l .so-far) (f .literals-of .result) _ (l .inv .0) (f .literals-of .ensures) (c .before .enum-told .given .1))) _ refl,
     )
 
 pub constraints-at-spec : {M : Type 1} → statement M

@@ -10,7 +10,7 @@ use denote.Ref.{now}
 use Rattle.words.specs.Loop.{every}
 use Rattle.scan.specs.Set.{zeroSet}
 use Rattle.scan.specs.Shape.{countTests}
-use Rattle.scan.proofs.Shapes.{many-reads, many-outputs}
+use Rattle.scan.proofs.ShapeLaws.{many-reads, many-outputs}
 use Rattle.header.specs.Header.{headerOf}
 use Rattle.loader.specs.Load.{refusal, goingOn, withCounts, countsAt}
 use Rattle.header.specs.declared.header.Header.the-variants.{Field}

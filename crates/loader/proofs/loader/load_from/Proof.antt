@@ -2,7 +2,7 @@
 use mathlib.Core.Path.{_∙_}
 use denote.Ref.{now}
 use Rattle.loader.specs.Load.{afterCounts, loadFrom}
-use Rattle.loader.proofs.Keeps.{counts-range, stays, goes}
+use Rattle.loader.proofs.LoadKeeps.{counts-range, stays, goes}
 use borrow.Author.Needs.{needs}
 use Rattle.loader.proofs.loader.load_from.Statement.{statement}
 use Rattle.loader.proofs.loader.load_from.Tie as tie
@@ -18,7 +18,7 @@ enum-known-p c = search needs
 
 after-counts-requires : tie.Need-after-counts-requires
 after-counts-requires c κs =
-    let p = c .before .before in
+    let p = c .before in
     let f = p .before .before in
     let s = f .before .before in
     let a = s .args in
@@ -34,7 +34,7 @@ returns c =
 returns-2 : tie.Need-returns-2
 unfolding loadFrom
 returns-2 c =
-    let p = c .before .before .before in
+    let p = c .before .before in
     let f = p .before .before in
     let a = f .before .before .args in
     c .after-counts .ensures ∙ goes (f .counts-at .result) _ (afterCounts (now (a .s))) (f .counts-at .ensures) _ (p .p .given .1)

@@ -10,7 +10,7 @@ use Rattle.header.specs.Header.{headerOf}
 use Rattle.loader.specs.Load.{refusal, goingOn, withOutput, outputAt, outputsFrom}
 use Rattle.header.proofs.HeaderLaws.{field-within, output-length, front-place, front-header}
 use Rattle.loader.proofs.LoadLaws.{body-long, output-stopped, output-done}
-use Rattle.loader.proofs.Keeps.{output-row, row-end, row-stays, row-goes}
+use Rattle.loader.proofs.LoadKeeps.{output-row, row-end, row-stays, row-goes}
 use borrow.Author.Needs.{needs}
 use Rattle.loader.proofs.loader.outputs_at.Statement.{statement}
 use Rattle.loader.proofs.loader.outputs_at.Tie as tie

@@ -10,7 +10,7 @@ use Rattle.header.specs.Header.{headerOf}
 use Rattle.loader.specs.Load.{refusal, goingOn, withRead, readAt, readsFrom}
 use Rattle.header.proofs.HeaderLaws.{field-within, read-length, front-place, front-header}
 use Rattle.loader.proofs.LoadLaws.{body-long, read-stopped, read-done}
-use Rattle.loader.proofs.Keeps.{read-row, row-end, row-stays, row-goes}
+use Rattle.loader.proofs.LoadKeeps.{read-row, row-end, row-stays, row-goes}
 use borrow.Author.Needs.{needs}
 use Rattle.loader.proofs.loader.reads_at.Statement.{statement}
 use Rattle.loader.proofs.loader.reads_at.Tie as tie

@@ -1,7 +1,7 @@
 -- `machine::machine::is_state_ok` meets its contract. Assumes nothing.
 use mathlib.Core.Path.{sym, ap₂, _∙_}
 use mathlib.Core.Bool.{_&&_}
-use Rattle.words.proofs.Bools.{and-unit}
+use Rattle.words.proofs.BoolLaws.{and-unit}
 use Rattle.machine.specs.Machine.{stateOk}
 use borrow.Author.Needs.{needs}
 use Rattle.machine.proofs.machine.is_state_ok.Statement.{statement}

@@ -4,7 +4,7 @@ use Prim.Native.Nat.{ℕ, _≤_, _-_}
 use native.Mathlib.Omega.{arith}
 use Rattle.words.specs.Loop.{word}
 use Rattle.scan.specs.Set.{kind}
-use Rattle.words.proofs.Rounds.{word-none, word-turn}
+use Rattle.words.proofs.LoopTurns.{word-none, word-turn}
 use mathlib.Core.Bool.{not}
 use Rattle.machine.specs.Machine.{isPast}
 use borrow.Author.Needs.{needs}

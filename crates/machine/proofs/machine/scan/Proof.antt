@@ -1,4 +1,4 @@
--- `machine::machine::scan` meets its contract: at each of its ways out it answers as the laws of `Answers` say. Assumes nothing.
+-- `machine::machine::scan` meets its contract: at each of its ways out it answers as the laws of `MachineLaws` say. Assumes nothing.
 use mathlib.Core.Path.{_≡_, sym, ap, _∙_}
 use mathlib.Core.Bool.{true}
 use Prim.Native.Nat.{ℕ}
@@ -11,8 +11,8 @@ use Rattle.machine.specs.declared.machine.Scanned.{Scanned}
 use Rattle.machine.specs.Machine.{stateOk, sensorOk, requestOk, refused, sending, scanOf}
 use Rattle.scan.specs.Shape.{wellFormed}
 use Rattle.scan.specs.Walk.{walk}
-use Rattle.scan.proofs.Formed.{counts}
-use Rattle.machine.proofs.Answers.{state-formed, scan-bad-state, scan-bad-sensor, scan-bad-request, scan-walks}
+use Rattle.scan.proofs.ShapeLaws.{counts}
+use Rattle.machine.proofs.MachineLaws.{state-formed, scan-bad-state, scan-bad-sensor, scan-bad-request, scan-walks}
 use borrow.Author.Needs.{needs}
 use Rattle.machine.proofs.machine.scan.Statement.{statement}
 use Rattle.machine.proofs.machine.scan.Tie as tie
@@ -28,21 +28,21 @@ state-ok c = sym (c .before .is-state-ok .ensures) ∙ not-false (c .before .is-
 set-formed : (c : tie.Else1) → wellFormed (c .before .before .args .state .set) ≡ true
 set-formed c = state-formed (c .before .before .args .state) (state-ok c)
 
-sensor-ok : (c : tie.Else2) → let a = c .before .before .before .before .before .args in sensorOk (a .state .set) (a .sensor) ≡ true
+sensor-ok : (c : tie.Else2) → let a = c .before .before .before .before .args in sensorOk (a .state .set) (a .sensor) ≡ true
 sensor-ok c = sym (c .before .is-sensor-word .ensures) ∙ not-false (c .before .is-sensor-word .result) (c .if2 .left)
 
-request-ok : (c : tie.Else3) → let a = c .before .before .before .before .before .before .before .args in requestOk (a .state .set) (a .request) ≡ true
+request-ok : (c : tie.Else3) → let a = c .before .before .before .before .before .before .args in requestOk (a .state .set) (a .request) ≡ true
 unfolding requestOk
 request-ok c = sym (c .before .fits16 .ensures) ∙ not-false (c .before .fits16 .result) (c .if3 .left)
 
 -- behind all three, at a walk that ends at x
-walked : (c : tie.After-walk-from) → let a = c .before .before .before .before .before .before .before .before .before .args in (x : Walk)
+walked : (c : tie.After-walk-from) → let a = c .before .before .before .before .before .before .before .before .args in (x : Walk)
     → c .walk-from .result ≡ x → sending (a .state) (a .sensor) x ≡ scanOf (a .state) (a .sensor) (a .request)
 walked c x e =
     let r = c .before in
     let e3 = r .before in
     let e2 = e3 .before .before in
-    let e1 = e2 .before .before .before in
+    let e1 = e2 .before .before in
     let a = e1 .before .before .args in
     ap (sending (a .state) (a .sensor))
     (sym e ∙ c .walk-from .ensures ∙ ap (λ (w : ℕ). walk (a .state .set) w (a .request)) (r .read-word .ensures))
@@ -63,8 +63,7 @@ returns c =
 
 is-sensor-word-requires : tie.Need-is-sensor-word-requires
 is-sensor-word-requires c κs =
-    let e1 = c .before in
-    counts (e1 .before .before .args .state .set) (set-formed e1) .r-le
+    counts (c .before .before .args .state .set) (set-formed c) .r-le
 
 refuse-requires-2 : tie.Need-refuse-requires-2
 refuse-requires-2 c κs = search needs
@@ -72,7 +71,7 @@ refuse-requires-2 c κs = search needs
 returns-2 : tie.Need-returns-2
 returns-2 c =
     let b = c .before .before in
-    let e1 = b .before .before in
+    let e1 = b .before in
     let a = e1 .before .before .args in
     refuses (c .refuse2 .result) (a .state) _ (c .refuse2 .ensures)
     ∙ sym (scan-bad-sensor (a .state) (a .sensor) (a .request) (state-ok e1)
@@ -89,7 +88,7 @@ unfolding requestOk
 returns-3 c =
     let f = c .before .before in
     let e2 = f .before in
-    let e1 = e2 .before .before .before in
+    let e1 = e2 .before .before in
     let a = e1 .before .before .args in
     refuses (c .refuse3 .result) (a .state) _ (c .refuse3 .ensures)
     ∙ sym (scan-bad-request (a .state) (a .sensor) (a .request) (state-ok e1) (sensor-ok e2)
@@ -97,11 +96,11 @@ returns-3 c =
 
 read-word-requires : tie.Need-read-word-requires
 read-word-requires c κs =
-    let e1 = c .before .before .before .before .before in
+    let e1 = c .before .before .before .before in
     counts (e1 .before .before .args .state .set) (set-formed e1) .r-le
 
 walk-from-requires : tie.Need-walk-from-requires
-walk-from-requires c κs = set-formed (c .before .before .before .before .before .before)
+walk-from-requires c κs = set-formed (c .before .before .before .before .before)
 
 enum-known-walked : tie.Need-enum-known-walked
 enum-known-walked c = search needs

@@ -3,12 +3,11 @@ use mathlib.Core.Path.{_≡_, refl}
 use Prim.Native.Nat.{ℕ, _≤_, _-_}
 use native.Mathlib.Omega.{arith}
 use Rattle.words.specs.Loop.{gather}
-use Rattle.words.proofs.Steps.{gather-none}
+use Rattle.words.proofs.LoopTurns.{gather-none, kept-turn}
 use Rattle.scan.specs.declared.set.Set.{Set}
 use Rattle.scan.specs.declared.holds.Holds.{Holds}
 use Rattle.scan.specs.Set.{constraint}
 use Rattle.scan.specs.Holds.{holding, toZero, toOne, F0, F1, holdsOf}
-use Rattle.words.proofs.Rounds.{kept-turn}
 use borrow.Author.Needs.{needs}
 use Rattle.scan.proofs.holds.hold.Statement.{statement}
 use Rattle.scan.proofs.holds.hold.Tie as tie

@@ -3,7 +3,7 @@ use mathlib.Core.Path.{sym, subst, ap, _∙_}
 use Prim.Native.Nat.{ℕ, _-_, _^_, _≤_, min}
 use native.Mathlib.Nat.{min-eq-left}
 use Rattle.words.specs.Word.{popcount}
-use Rattle.words.proofs.Counts.{ones-count, count-le}
+use Rattle.words.proofs.PopcountLaws.{ones-count, count-le}
 use borrow.Author.Needs.{needs}
 use Rattle.scan.proofs.holds.pass_limit.Statement.{statement}
 use Rattle.scan.proofs.holds.pass_limit.Tie as tie

@@ -3,7 +3,7 @@ use mathlib.Core.Path.{ap, _∙_}
 use mathlib.Core.Bool.{Bool, cond, _&&_}
 use native.Mathlib.Omega.{arith}
 use lib.Dec.{eqb}
-use Rattle.words.proofs.Shifts.{one-shl}
+use Rattle.words.proofs.ShiftLaws.{one-shl}
 use Rattle.scan.specs.Set.{rank}
 use Rattle.scan.specs.Pass.{hasRank}
 use borrow.Author.Needs.{needs}

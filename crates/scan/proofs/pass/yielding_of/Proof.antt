@@ -4,7 +4,7 @@ use Prim.Native.Nat.{ℕ, _≤_, _-_}
 use native.Mathlib.Omega.{arith}
 use Rattle.words.specs.Loop.{word}
 use Rattle.scan.specs.Pass.{hasRank, yielding}
-use Rattle.words.proofs.Rounds.{word-none, word-step}
+use Rattle.words.proofs.LoopTurns.{word-none, word-step}
 use borrow.Author.Needs.{needs}
 use Rattle.scan.proofs.pass.yielding_of.Statement.{statement}
 use Rattle.scan.proofs.pass.yielding_of.Tie as tie

@@ -5,7 +5,7 @@ use native.Mathlib.Nat.{min-le-right}
 use Rattle.scan.specs.declared.set.Set.{Set}
 use Rattle.scan.specs.declared.holds.Holds.{Holds}
 use Rattle.scan.specs.Holds.{unheldBy, unheld}
-use Rattle.scan.specs.Table.{capped, tableUpto, tableOf}
+use Rattle.scan.specs.way.Table.{capped, tableUpto, tableOf}
 use borrow.Author.Needs.{needs}
 use Rattle.scan.proofs.table.build.Statement.{statement}
 use Rattle.scan.proofs.table.build.Tie as tie

@@ -12,8 +12,8 @@ use Rattle.scan.specs.declared.table.Table.{Table}
 use Rattle.scan.specs.Set.{constraint, outs}
 use Rattle.scan.specs.Holds.{holdsOf, unheld, unheldCount, limitBy, passLimit}
 use Rattle.scan.specs.Pass.{yielding, yields}
-use Rattle.scan.specs.Table.{active, withEntry, tableUpto}
-use Rattle.scan.proofs.Tables.{upto-none, upto-on, upto-off}
+use Rattle.scan.specs.way.Table.{active, withEntry, tableUpto}
+use Rattle.scan.proofs.TableLaws.{upto-none, upto-on, upto-off}
 use borrow.Author.Needs.{needs}
 use Rattle.scan.proofs.table.fill.Statement.{statement}
 use Rattle.scan.proofs.table.fill.Tie as tie

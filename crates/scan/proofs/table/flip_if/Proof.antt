@@ -1,6 +1,6 @@
 -- `scan::table::flip_if` meets its contract. Assumes nothing.
 use borrow.Author.Tests.{eq-eqb, ne-eqb}
-use Rattle.words.proofs.Bools.{cond-true, cond-false}
+use Rattle.words.proofs.BoolLaws.{cond-true, cond-false}
 use Rattle.scan.proofs.table.flip_if.Statement.{statement}
 use Rattle.scan.proofs.table.flip_if.Tie as tie
 

@@ -1,7 +1,7 @@
 -- `scan::table::is_active` meets its contract. Assumes nothing.
 use mathlib.Core.Path.{ap₂, _∙_}
 use mathlib.Core.Bool.{_&&_}
-use Rattle.scan.specs.Table.{active}
+use Rattle.scan.specs.way.Table.{active}
 use borrow.Author.Needs.{needs}
 use Rattle.scan.proofs.table.is_active.Statement.{statement}
 use Rattle.scan.proofs.table.is_active.Tie as tie

@@ -3,9 +3,8 @@ use mathlib.Core.Path.{_≡_, refl, sym, ap, _∙_}
 use Prim.Native.Nat.{ℕ, _≤_, _-_}
 use native.Mathlib.Omega.{arith}
 use Rattle.words.specs.Loop.{some}
-use Rattle.words.proofs.Steps.{some-none}
-use Rattle.scan.specs.Table.{entryTrue, anyTrue}
-use Rattle.words.proofs.Rounds.{some-step}
+use Rattle.words.proofs.LoopTurns.{some-none, some-step}
+use Rattle.scan.specs.way.Table.{entryTrue, anyTrue}
 use borrow.Author.Needs.{needs}
 use Rattle.scan.proofs.table.is_any_true.Statement.{statement}
 use Rattle.scan.proofs.table.is_any_true.Tie as tie

@@ -4,7 +4,7 @@ use mathlib.Core.Bool.{Bool, true, false, not, _&&_}
 use mathlib.Core.List.{List}
 use Prim.Native.Nat.{ℕ}
 use Rattle.words.specs.Word.{meets}
-use Rattle.scan.specs.Table.{anyTrue, safeOver}
+use Rattle.scan.specs.way.Table.{anyTrue, safeOver}
 use borrow.Author.Needs.{needs}
 use Rattle.scan.proofs.table.is_safe.Statement.{statement}
 use Rattle.scan.proofs.table.is_safe.Tie as tie

@@ -4,8 +4,8 @@ use Prim.Native.Nat.{ℕ, _≤_, _-_}
 use native.Mathlib.Omega.{arith}
 use lib.Bits.{bitXor}
 use Rattle.words.specs.Loop.{gather}
-use Rattle.words.proofs.Steps.{gather-none, gather-step}
-use Rattle.scan.specs.Table.{entryTrue, entryFlips, passOver}
+use Rattle.words.proofs.LoopTurns.{gather-none, gather-step}
+use Rattle.scan.specs.way.Table.{entryTrue, entryFlips, passOver}
 use borrow.Author.Needs.{needs}
 use Rattle.scan.proofs.table.pass_over.Statement.{statement}
 use Rattle.scan.proofs.table.pass_over.Tie as tie

@@ -7,9 +7,9 @@ use native.Mathlib.Nat.{sub-zero}
 use Rattle.scan.specs.declared.table.Table.{Table}
 use Rattle.scan.specs.declared.walk.Walk.{Walk}
 use Rattle.scan.specs.declared.walk.Walk.the-variants.{Safe, Never}
-use Rattle.scan.specs.Table.{safeOver, passOver}
+use Rattle.scan.specs.way.Table.{safeOver, passOver}
 use Rattle.scan.specs.Walk.{walkBy}
-use Rattle.scan.proofs.Turns.{by-stop, by-on, by-never}
+use Rattle.scan.proofs.WalkLaws.{by-stop, by-on, by-never}
 use borrow.Author.Needs.{needs}
 use Rattle.scan.proofs.walk.walk_over.Statement.{statement}
 use Rattle.scan.proofs.walk.walk_over.Tie as tie

@@ -5,8 +5,8 @@ use denote.Ref.{now}
 use borrow.Author.Tests.{not-true, not-false}
 use Rattle.scan.specs.Shape.{wellFormed}
 use Rattle.shape.specs.Finding.{findPadded}
-use Rattle.scan.proofs.Shapes.{formed-counts}
-use Rattle.shape.proofs.Finds.{find-bad, find-empty, find-long, find-strange, find-named}
+use Rattle.scan.proofs.ShapeLaws.{formed-counts}
+use Rattle.shape.proofs.FindingLaws.{find-bad, find-empty, find-long, find-strange, find-named}
 use borrow.Author.Needs.{needs}
 use Rattle.shape.proofs.finding.find.Statement.{statement}
 use Rattle.shape.proofs.finding.find.Tie as tie

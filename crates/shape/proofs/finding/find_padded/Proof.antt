@@ -1,5 +1,5 @@
 -- `shape::finding::find_padded` meets its contract. Assumes nothing.
-use Rattle.shape.proofs.Finds.{find-read, find-output, find-none}
+use Rattle.shape.proofs.FindingLaws.{find-read, find-output, find-none}
 use borrow.Author.Needs.{needs}
 use Rattle.shape.proofs.finding.find_padded.Statement.{statement}
 use Rattle.shape.proofs.finding.find_padded.Tie as tie

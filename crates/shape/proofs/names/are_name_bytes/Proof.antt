@@ -5,7 +5,7 @@ use mathlib.Core.List.{List}
 use lib.ListN.{length, getD}
 use denote.Ref.{now}
 use Rattle.scan.specs.Names.{nameByte, allNameBytes}
-use Rattle.words.proofs.Rounds.{Passed, passed-none, passed-one, passed-all}
+use Rattle.words.proofs.LoopTurns.{Passed, passed-none, passed-one, passed-all}
 use borrow.Author.Needs.{needs}
 use Rattle.shape.proofs.names.are_name_bytes.Statement.{statement}
 use Rattle.shape.proofs.names.are_name_bytes.Tie as tie

@@ -2,8 +2,8 @@
 use mathlib.Core.Path.{sym, _∙_}
 use Prim.Native.Nat.{_-_}
 use denote.Ref.{now}
-use Rattle.scan.specs.Names.{nameIs, firstName}
-use Rattle.words.proofs.Rounds.{Missed, missed-none, missed-one, missed-here, missed-all}
+use Rattle.shape.specs.way.Names.{nameIs, firstName}
+use Rattle.words.proofs.LoopTurns.{Missed, missed-none, missed-one, missed-here, missed-all}
 use borrow.Author.Needs.{needs}
 use Rattle.shape.proofs.names.first_of_outputs.Statement.{statement}
 use Rattle.shape.proofs.names.first_of_outputs.Tie as tie

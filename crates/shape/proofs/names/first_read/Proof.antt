@@ -2,7 +2,7 @@
 use mathlib.Core.Path.{sym, _∙_}
 use Prim.Native.Nat.{_-_}
 use Rattle.scan.specs.Names.{readNamed, firstRead}
-use Rattle.words.proofs.Rounds.{Missed, missed-none, missed-one, missed-here, missed-all}
+use Rattle.words.proofs.LoopTurns.{Missed, missed-none, missed-one, missed-here, missed-all}
 use borrow.Author.Needs.{needs}
 use Rattle.shape.proofs.names.first_read.Statement.{statement}
 use Rattle.shape.proofs.names.first_read.Tie as tie

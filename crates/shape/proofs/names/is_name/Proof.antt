@@ -5,8 +5,9 @@ use Prim.Native.Nat.{ℕ, _+_, _-_, _≤_}
 use native.Mathlib.Omega.{arith}
 use lib.ListN.{length, getD}
 use Rattle.words.specs.Loop.{all}
-use Rattle.scan.specs.Names.{zeroAt, nextOk}
-use Rattle.scan.proofs.Shapes.{followsOk, follows-none, follows-more, name-follows}
+use Rattle.scan.specs.Names.{zeroAt}
+use Rattle.shape.specs.way.Names.{nextOk}
+use Rattle.shape.proofs.NamesWayLaws.{followsOk, follows-none, follows-more, name-follows}
 use borrow.Author.Needs.{needs}
 use Rattle.shape.proofs.names.is_name.Statement.{statement}
 use Rattle.shape.proofs.names.is_name.Tie as tie

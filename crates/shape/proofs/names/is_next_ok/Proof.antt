@@ -2,7 +2,7 @@
 use mathlib.Core.Path.{ap, _∙_}
 use mathlib.Core.Bool.{Bool, not, _&&_, _||_}
 use lib.Dec.{eqb}
-use Rattle.scan.specs.Names.{nextOk}
+use Rattle.shape.specs.way.Names.{nextOk}
 use borrow.Author.Needs.{needs}
 use Rattle.shape.proofs.names.is_next_ok.Statement.{statement}
 use Rattle.shape.proofs.names.is_next_ok.Tie as tie

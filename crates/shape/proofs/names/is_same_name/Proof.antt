@@ -2,7 +2,7 @@
 use mathlib.Core.Path.{refl}
 use Prim.Native.Nat.{_-_}
 use Rattle.scan.specs.Names.{sameAt, sameName}
-use Rattle.words.proofs.Rounds.{Passed, passed-none, passed-one, passed-all}
+use Rattle.words.proofs.LoopTurns.{Passed, passed-none, passed-one, passed-all}
 use borrow.Author.Needs.{needs}
 use Rattle.shape.proofs.names.is_same_name.Statement.{statement}
 use Rattle.shape.proofs.names.is_same_name.Tie as tie

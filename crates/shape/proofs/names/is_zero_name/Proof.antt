@@ -3,8 +3,8 @@ use mathlib.Core.Path.{_≡_, refl}
 use Prim.Native.Nat.{_-_}
 use lib.ListN.{length}
 use Rattle.scan.specs.Names.{zeroAt}
-use Rattle.words.proofs.Rounds.{Passed, passed-none, passed-one, passed-all}
-use Rattle.scan.proofs.Shapes.{name-zeros}
+use Rattle.words.proofs.LoopTurns.{Passed, passed-none, passed-one, passed-all}
+use Rattle.shape.proofs.NamesWayLaws.{name-zeros}
 use borrow.Author.Needs.{needs}
 use Rattle.shape.proofs.names.is_zero_name.Statement.{statement}
 use Rattle.shape.proofs.names.is_zero_name.Tie as tie

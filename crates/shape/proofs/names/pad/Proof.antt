@@ -6,7 +6,7 @@ use native.Mathlib.Omega.{arith}
 use lib.ListN.{length, getD, take, set, replicate}
 use lib.Seq.{take-length}
 use denote.Ref.{now}
-use Rattle.scan.proofs.Shapes.{pad-one}
+use Rattle.shape.proofs.NamesWayLaws.{pad-one}
 use borrow.Author.Needs.{needs}
 use Rattle.shape.proofs.names.pad.Statement.{statement}
 use Rattle.shape.proofs.names.pad.Tie as tie

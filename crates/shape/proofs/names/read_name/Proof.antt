@@ -5,7 +5,7 @@ use mathlib.Core.List.{List}
 use Prim.Native.Nat.{ℕ}
 use denote.Ref.{now}
 use borrow.Author.Tests.{not-true, not-false}
-use Rattle.shape.proofs.Finds.{spell-empty, spell-long, spell-strange, spell-name}
+use Rattle.shape.proofs.NameReadLaws.{spell-empty, spell-long, spell-strange, spell-name}
 use borrow.Author.Needs.{needs}
 use Rattle.shape.proofs.names.read_name.Statement.{statement}
 use Rattle.shape.proofs.names.read_name.Tie as tie

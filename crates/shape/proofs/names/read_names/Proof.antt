@@ -3,7 +3,7 @@ use mathlib.Core.Path.{refl}
 use Prim.Native.Nat.{ℕ, _-_}
 use lib.ListN.{replicate}
 use Rattle.scan.specs.Set.{readPoint, zeroName}
-use Rattle.shape.proofs.NameLists.{Placed, placed-none, placed-one, placed-all}
+use Rattle.shape.proofs.NamesWayLaws.{Placed, placed-none, placed-one, placed-all}
 use borrow.Author.Needs.{needs}
 use Rattle.shape.proofs.names.read_names.Statement.{statement}
 use Rattle.shape.proofs.names.read_names.Tie as tie

@@ -2,7 +2,7 @@
 use Prim.Native.Nat.{_-_}
 use Rattle.scan.specs.Set.{constraint}
 use Rattle.scan.specs.Shape.{constraintPlace}
-use Rattle.words.proofs.Rounds.{Passed, passed-none, passed-one, passed-all}
+use Rattle.words.proofs.LoopTurns.{Passed, passed-none, passed-one, passed-all}
 use borrow.Author.Needs.{needs}
 use Rattle.shape.proofs.shape.are_constraints_ok.Statement.{statement}
 use Rattle.shape.proofs.shape.are_constraints_ok.Tie as tie

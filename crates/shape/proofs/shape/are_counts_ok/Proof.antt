@@ -1,5 +1,5 @@
 -- `shape::shape::are_counts_ok` meets its contract. Assumes nothing.
-use Rattle.scan.proofs.Shapes.{counts-rest, many-reads, many-outputs}
+use Rattle.scan.proofs.ShapeLaws.{counts-rest, many-reads, many-outputs}
 use borrow.Author.Needs.{needs}
 use Rattle.shape.proofs.shape.are_counts_ok.Statement.{statement}
 use Rattle.shape.proofs.shape.are_counts_ok.Tie as tie

@@ -1,8 +1,8 @@
 -- `shape::shape::are_outputs_ok` meets its contract. The loop's invariant: `ok` tells whether the places before j are right. Assumes nothing.
 use Prim.Native.Nat.{_-_}
 use denote.Ref.{now}
-use Rattle.scan.specs.Shape.{outputPlaceBy}
-use Rattle.words.proofs.Rounds.{Passed, passed-none, passed-one, passed-all}
+use Rattle.shape.specs.way.Shape.{outputPlaceBy}
+use Rattle.words.proofs.LoopTurns.{Passed, passed-none, passed-one, passed-all}
 use borrow.Author.Needs.{needs}
 use Rattle.shape.proofs.shape.are_outputs_ok.Statement.{statement}
 use Rattle.shape.proofs.shape.are_outputs_ok.Tie as tie

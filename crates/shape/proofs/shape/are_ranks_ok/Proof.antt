@@ -4,8 +4,8 @@ use mir.Syntax.{w8}
 use mir.Val.{Fits}
 use Rattle.scan.specs.Set.{rank}
 use Rattle.scan.specs.Shape.{rankOk}
-use Rattle.words.proofs.Rounds.{Passed, passed-none, passed-one, passed-all}
-use Rattle.scan.proofs.Shapes.{rank-test}
+use Rattle.words.proofs.LoopTurns.{Passed, passed-none, passed-one, passed-all}
+use Rattle.shape.proofs.ShapeWayLaws.{rank-test}
 use borrow.Author.Needs.{needs}
 use Rattle.shape.proofs.shape.are_ranks_ok.Statement.{statement}
 use Rattle.shape.proofs.shape.are_ranks_ok.Tie as tie

@@ -3,9 +3,10 @@ use mathlib.Core.Path.{ap, _∙_}
 use Prim.Native.Nat.{ℕ, _-_}
 use denote.Ref.{now}
 use Rattle.scan.specs.Set.{readPoint}
-use Rattle.scan.specs.Shape.{readPlace, readPlaceBy}
-use Rattle.words.proofs.Rounds.{Passed, passed-none, passed-one, passed-all}
-use Rattle.shape.proofs.NameLists.{by-place}
+use Rattle.scan.specs.Shape.{readPlace}
+use Rattle.shape.specs.way.Shape.{readPlaceBy}
+use Rattle.words.proofs.LoopTurns.{Passed, passed-none, passed-one, passed-all}
+use Rattle.shape.proofs.ShapeWayLaws.{by-place}
 use borrow.Author.Needs.{needs}
 use Rattle.shape.proofs.shape.are_reads_ok.Statement.{statement}
 use Rattle.shape.proofs.shape.are_reads_ok.Tie as tie

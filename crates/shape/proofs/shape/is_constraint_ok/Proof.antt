@@ -1,7 +1,8 @@
 -- `shape::shape::is_constraint_ok` meets its contract. Assumes nothing.
 use mathlib.Core.Path.{_≡_}
 use lib.ListN.{length}
-use Rattle.scan.proofs.Shapes.{mapped-long, constraint-right}
+use Rattle.words.proofs.ListLaws.{mapped-long}
+use Rattle.shape.proofs.ShapeWayLaws.{constraint-right}
 use borrow.Author.Needs.{needs}
 use Rattle.shape.proofs.shape.is_constraint_ok.Statement.{statement}
 use Rattle.shape.proofs.shape.is_constraint_ok.Tie as tie

@@ -1,7 +1,7 @@
 -- `shape::shape::is_constraint_place_ok` meets its contract. Assumes nothing.
 use mathlib.Core.Path.{_∙_}
 use Rattle.words.specs.Loop.{every}
-use Rattle.words.proofs.Bools.{cond-true, cond-false}
+use Rattle.words.proofs.BoolLaws.{cond-true, cond-false}
 use Rattle.scan.specs.Shape.{constraintTests, constraintZero}
 use borrow.Author.Needs.{needs}
 use Rattle.shape.proofs.shape.is_constraint_place_ok.Statement.{statement}

@@ -1,7 +1,8 @@
 -- `shape::shape::is_constraint_zero` meets its contract. Assumes nothing.
 use mathlib.Core.Path.{_≡_}
 use lib.ListN.{length}
-use Rattle.scan.proofs.Shapes.{mapped-long, constraint-zeros}
+use Rattle.words.proofs.ListLaws.{mapped-long}
+use Rattle.shape.proofs.ShapeWayLaws.{constraint-zeros}
 use borrow.Author.Needs.{needs}
 use Rattle.shape.proofs.shape.is_constraint_zero.Statement.{statement}
 use Rattle.shape.proofs.shape.is_constraint_zero.Tie as tie

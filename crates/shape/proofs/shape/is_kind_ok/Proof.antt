@@ -1,5 +1,5 @@
 -- `shape::shape::is_kind_ok` meets its contract. Assumes nothing.
-use Rattle.shape.proofs.NameLists.{by-sensor, by-output, by-past}
+use Rattle.shape.proofs.ShapeWayLaws.{by-sensor, by-output, by-past}
 use borrow.Author.Needs.{needs}
 use Rattle.shape.proofs.shape.is_kind_ok.Statement.{statement}
 use Rattle.shape.proofs.shape.is_kind_ok.Tie as tie

@@ -5,9 +5,9 @@ use lib.ListN.{getD}
 use lib.Dec.{ltb}
 use borrow.Author.Tests.{lt-ltb, le-ltb}
 use denote.Ref.{now}
-use Rattle.words.proofs.Bools.{cond-true, cond-false}
+use Rattle.words.proofs.BoolLaws.{cond-true, cond-false}
 use Rattle.scan.specs.Names.{nameZero}
-use Rattle.scan.specs.Shape.{outputBy}
+use Rattle.shape.specs.way.Shape.{outputBy}
 use borrow.Author.Needs.{needs}
 use Rattle.shape.proofs.shape.is_output_place_ok.Statement.{statement}
 use Rattle.shape.proofs.shape.is_output_place_ok.Tie as tie

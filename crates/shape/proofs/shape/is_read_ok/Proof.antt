@@ -2,8 +2,8 @@
 use mathlib.Core.Path.{ap}
 use Prim.Native.Nat.{ℕ}
 use lib.Dec.{eqb}
-use Rattle.scan.specs.Shape.{readBy}
-use Rattle.scan.proofs.Shapes.{three}
+use Rattle.shape.specs.way.Shape.{readBy}
+use Rattle.words.proofs.BoolLaws.{three}
 use borrow.Author.Needs.{needs}
 use Rattle.shape.proofs.shape.is_read_ok.Statement.{statement}
 use Rattle.shape.proofs.shape.is_read_ok.Tie as tie

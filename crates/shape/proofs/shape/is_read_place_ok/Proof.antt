@@ -3,8 +3,9 @@ use mathlib.Core.Path.{_∙_}
 use lib.Dec.{ltb}
 use borrow.Author.Tests.{lt-ltb, le-ltb}
 use denote.Ref.{now}
-use Rattle.words.proofs.Bools.{cond-true, cond-false}
-use Rattle.scan.specs.Shape.{readBy, readZero}
+use Rattle.words.proofs.BoolLaws.{cond-true, cond-false}
+use Rattle.shape.specs.way.Shape.{readBy}
+use Rattle.scan.specs.Shape.{readZero}
 use borrow.Author.Needs.{needs}
 use Rattle.shape.proofs.shape.is_read_place_ok.Statement.{statement}
 use Rattle.shape.proofs.shape.is_read_place_ok.Tie as tie

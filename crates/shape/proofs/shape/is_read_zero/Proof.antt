@@ -1,6 +1,6 @@
 -- `shape::shape::is_read_zero` meets its contract. Assumes nothing.
 use Rattle.scan.specs.Shape.{readZero}
-use Rattle.scan.proofs.Shapes.{two}
+use Rattle.words.proofs.BoolLaws.{two}
 use borrow.Author.Needs.{needs}
 use Rattle.shape.proofs.shape.is_read_zero.Statement.{statement}
 use Rattle.shape.proofs.shape.is_read_zero.Tie as tie

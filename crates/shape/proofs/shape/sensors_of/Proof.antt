@@ -3,7 +3,7 @@ use mathlib.Core.Path.{_≡_, ap, _∙_}
 use Prim.Native.Nat.{ℕ, _≤_, _-_}
 use native.Mathlib.Omega.{arith}
 use Rattle.words.specs.Loop.{word}
-use Rattle.words.proofs.Rounds.{word-none, word-turn}
+use Rattle.words.proofs.LoopTurns.{word-none, word-turn}
 use Rattle.scan.specs.Set.{readPoint}
 use Rattle.scan.specs.Shape.{isSensor}
 use borrow.Author.Needs.{needs}

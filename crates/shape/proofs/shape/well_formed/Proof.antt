@@ -5,8 +5,9 @@ use Prim.Native.Nat.{_≤_}
 use lib.ListN.{length}
 use Rattle.words.specs.Loop.{every}
 use Rattle.scan.specs.Shape.{countTests}
-use Rattle.scan.proofs.Shapes.{mapped-long, counts-told, bad-counts, set-tests}
-use Rattle.shape.proofs.NameLists.{by-outputs}
+use Rattle.words.proofs.ListLaws.{mapped-long}
+use Rattle.scan.proofs.ShapeLaws.{counts-told}
+use Rattle.shape.proofs.ShapeWayLaws.{bad-counts, set-tests, by-outputs}
 use borrow.Author.Needs.{needs}
 use Rattle.shape.proofs.shape.well_formed.Statement.{statement}
 use Rattle.shape.proofs.shape.well_formed.Tie as tie

@@ -5,10 +5,10 @@ use mathlib.Core.Bool.{false}
 use Prim.Native.Nat.{ℕ, _≤_, _-_}
 use native.Mathlib.Omega.{arith}
 use Rattle.words.specs.Loop.{some, iterate}
-use Rattle.words.proofs.Steps.{some-none}
-use Rattle.scan.specs.Table.{passOver}
-use Rattle.verdict.specs.Marks.{marked}
-use Rattle.verdict.proofs.MarkLaws.{pass-more, come-here, come-on, come-last}
+use Rattle.words.proofs.LoopTurns.{some-none}
+use Rattle.scan.specs.way.Table.{passOver}
+use Rattle.verdict.specs.way.Marks.{marked}
+use Rattle.verdict.proofs.MarksLaws.{pass-more, come-here, come-on, come-last}
 use borrow.Author.Needs.{needs}
 use Rattle.verdict.proofs.marks.comes_to_mark.Statement.{statement}
 use Rattle.verdict.proofs.marks.comes_to_mark.Tie as tie

@@ -3,7 +3,7 @@ use mathlib.Core.Path.{refl, sym, ap}
 use Prim.Native.Nat.{ℕ}
 use lib.Dec.{eqb}
 use lib.ListN.{List·getD-eq-default}
-use Rattle.verdict.specs.Marks.{marked}
+use Rattle.verdict.specs.way.Marks.{marked}
 use borrow.Author.Needs.{needs}
 use Rattle.verdict.proofs.marks.is_marked.Statement.{statement}
 use Rattle.verdict.proofs.marks.is_marked.Tie as tie

@@ -5,9 +5,9 @@ use Prim.Native.Nat.{ℕ, _+_, _≤_, _-_}
 use native.Mathlib.Nat.{sub-zero}
 use native.Mathlib.Omega.{arith}
 use lib.ListN.{length, length-set}
-use Rattle.scan.specs.Table.{passOver}
-use Rattle.verdict.specs.Marks.{pathMarked}
-use Rattle.verdict.proofs.MarkLaws.{path-stop, path-on, path-end}
+use Rattle.scan.specs.way.Table.{passOver}
+use Rattle.verdict.specs.way.Marks.{pathMarked}
+use Rattle.verdict.proofs.MarksLaws.{path-stop, path-on, path-end}
 use borrow.Author.Needs.{needs}
 use Rattle.verdict.proofs.marks.mark_path.Statement.{statement}
 use Rattle.verdict.proofs.marks.mark_path.Tie as tie

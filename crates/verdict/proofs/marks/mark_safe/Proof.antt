@@ -8,11 +8,10 @@ use native.Mathlib.Omega.{arith}
 use lib.ListN.{length, set, drop, length-set}
 use lib.Seq.{drop-length}
 use Rattle.words.specs.Loop.{some}
-use Rattle.words.proofs.Steps.{some-none}
-use Rattle.words.proofs.Rounds.{some-step}
-use Rattle.scan.specs.Table.{safeOver}
-use Rattle.verdict.specs.Marks.{markedWhere}
-use Rattle.verdict.proofs.MarkLaws.{where-none, where-store}
+use Rattle.words.proofs.LoopTurns.{some-none, some-step}
+use Rattle.scan.specs.way.Table.{safeOver}
+use Rattle.verdict.specs.way.Marks.{markedWhere}
+use Rattle.verdict.proofs.MarksLaws.{where-none, where-store}
 use borrow.Author.Needs.{needs}
 use Rattle.verdict.proofs.marks.mark_safe.Statement.{statement}
 use Rattle.verdict.proofs.marks.mark_safe.Tie as tie

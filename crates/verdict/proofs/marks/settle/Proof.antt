@@ -3,9 +3,9 @@ use mathlib.Core.Path.{_≡_, sym, _∙_}
 use mathlib.Core.Bool.{true, false}
 use mathlib.Core.List.{List}
 use Prim.Native.Nat.{ℕ}
-use Rattle.scan.specs.Table.{passOver}
-use Rattle.words.proofs.Bools.{cond-true, cond-false}
-use Rattle.verdict.specs.Marks.{comesToMark, pathMarked, settled}
+use Rattle.scan.specs.way.Table.{passOver}
+use Rattle.words.proofs.BoolLaws.{cond-true, cond-false}
+use Rattle.verdict.specs.way.Marks.{comesToMark, pathMarked, settled}
 use borrow.Author.Needs.{needs}
 use Rattle.verdict.proofs.marks.settle.Statement.{statement}
 use Rattle.verdict.proofs.marks.settle.Tie as tie

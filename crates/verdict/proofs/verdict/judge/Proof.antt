@@ -7,9 +7,9 @@ use native.Mathlib.Omega.{arith}
 use lib.ListN.{length}
 use lib.Seq.{length-take-le}
 use borrow.Author.Tests.{not-true, not-false}
-use Rattle.words.proofs.Shifts.{one-shl}
+use Rattle.words.proofs.ShiftLaws.{one-shl}
 use Rattle.scan.specs.Shape.{wellFormed}
-use Rattle.scan.proofs.Formed.{counts}
+use Rattle.scan.proofs.ShapeLaws.{counts}
 use Rattle.verdict.proofs.JudgeLaws.{bad-set, short-scratch, judged, later-kept}
 use borrow.Author.Needs.{needs}
 use Rattle.verdict.proofs.verdict.judge.Statement.{statement}

@@ -10,15 +10,15 @@ use lib.ListN.{length}
 use lib.Pow.{pow-mono}
 use borrow.Author.Tests.{not-true, not-false}
 use Rattle.words.specs.Loop.{some}
-use Rattle.words.proofs.Bools.{clash}
-use Rattle.words.proofs.Loops.{some-false-at}
-use Rattle.words.proofs.Shifts.{one-shl}
-use Rattle.words.proofs.Steps.{some-none, some-miss}
+use Rattle.words.proofs.BoolLaws.{clash}
+use Rattle.words.proofs.LoopLaws.{some-false-at}
+use Rattle.words.proofs.ShiftLaws.{one-shl}
+use Rattle.words.proofs.LoopTurns.{some-none, some-miss}
 use Rattle.scan.specs.declared.set.Set.{Set}
 use Rattle.scan.specs.Shape.{wellFormed}
-use Rattle.scan.proofs.Formed.{counts}
+use Rattle.scan.proofs.ShapeLaws.{counts}
 use Rattle.verdict.specs.Judge.{hasVector, endless, fails}
-use Rattle.verdict.proofs.Verdicts.{judge-accepted, judge-no-vector, judge-no-end, passes}
+use Rattle.verdict.proofs.MeaningLaws.{judge-accepted, judge-no-vector, judge-no-end, passes}
 use Rattle.verdict.proofs.WordMarks.{Ready, marked-safe, settled-request}
 use borrow.Author.Needs.{needs}
 use Rattle.verdict.proofs.verdict.judge_words.Statement.{statement}

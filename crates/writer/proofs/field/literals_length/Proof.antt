@@ -4,7 +4,7 @@ use native.Mathlib.Omega.{arith}
 use lib.Bits.{bitOr}
 use lib.Count.{ones, ones-le}
 use Rattle.scan.specs.Set.{outs}
-use Rattle.writer.proofs.LiteralBytes.{literals-long}
+use Rattle.writer.proofs.LiteralBodyLaws.{literals-long}
 use Rattle.writer.proofs.field.literals_length.Statement.{statement}
 use Rattle.writer.proofs.field.literals_length.Tie as tie
 

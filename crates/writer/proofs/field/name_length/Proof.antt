@@ -5,7 +5,7 @@ use mathlib.Core.Path.{_≡_}
 use Prim.Native.Nat.{_-_}
 use native.Mathlib.Omega.{arith}
 use lib.ListN.{length}
-use Rattle.words.proofs.Rounds.{Missed, missed-none, missed-one, missed-here, missed-all}
+use Rattle.words.proofs.LoopTurns.{Missed, missed-none, missed-one, missed-here, missed-all}
 use Rattle.scan.specs.Names.{zeroAt}
 use Rattle.writer.proofs.WriteLaws.{name-ends}
 use Rattle.writer.proofs.field.name_length.Statement.{statement}

@@ -5,9 +5,10 @@ use Prim.Native.Nat.{ℕ, _+_, _≤_}
 use native.Mathlib.Omega.{arith}
 use lib.ListN.{length, length-append}
 use denote.Ref.{now}
-use Rattle.scan.proofs.Formed.{Masks, constraint-masks}
-use Rattle.writer.specs.Write.{readLiteral, outputLiteral, joined, literalBody, Put}
-use Rattle.writer.proofs.LiteralBytes.{literals-within, masks-few}
+use Rattle.scan.proofs.ShapeLaws.{Masks, constraint-masks}
+use Rattle.writer.specs.Write.{readLiteral, outputLiteral, joined, literalBody}
+use Rattle.writer.specs.way.Write.{Put}
+use Rattle.writer.proofs.LiteralBodyLaws.{literals-within, masks-few}
 use Rattle.writer.proofs.WriteLaws.{put-then, next-room, body-room, field-put}
 use borrow.Author.Needs.{needs}
 use Rattle.writer.proofs.field.put_constraint.Statement.{statement}

@@ -5,7 +5,7 @@ use Prim.Native.Nat.{ℕ, _/_, _%_}
 use native.Mathlib.Omega.{arith}
 use lib.ListN.{length-set}
 use denote.Ref.{now}
-use Rattle.writer.specs.Write.{putAt}
+use Rattle.writer.specs.way.Write.{putAt}
 use Rattle.writer.proofs.WriteLaws.{put-three}
 use borrow.Author.Needs.{needs}
 use Rattle.writer.proofs.field.put_header.Statement.{statement}

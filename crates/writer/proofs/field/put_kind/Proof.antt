@@ -2,7 +2,8 @@
 use mathlib.Core.Path.{sym, subst}
 use denote.Ref.{now}
 use Rattle.scan.specs.declared.set.Kind.{Kind}
-use Rattle.writer.specs.Write.{kindBytes, Put}
+use Rattle.writer.specs.Write.{kindBytes}
+use Rattle.writer.specs.way.Write.{Put}
 use borrow.Author.Needs.{needs}
 use Rattle.writer.proofs.field.put_kind.Statement.{statement}
 use Rattle.writer.proofs.field.put_kind.Tie as tie

@@ -7,7 +7,7 @@ use native.Mathlib.Omega.{arith}
 use lib.ListN.{length, getD, take, set}
 use lib.Seq.{length-take-le}
 use denote.Ref.{now}
-use Rattle.writer.specs.Write.{putAt}
+use Rattle.writer.specs.way.Write.{putAt}
 use Rattle.writer.proofs.WriteLaws.{put-nothing, put-kept, put-next, name-taken, name-short}
 use Rattle.writer.proofs.field.put_name.Statement.{statement}
 use Rattle.writer.proofs.field.put_name.Tie as tie

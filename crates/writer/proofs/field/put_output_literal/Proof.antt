@@ -8,8 +8,9 @@ use lib.ListN.{length}
 use lib.Bits.{bitOr}
 use denote.Ref.{now}
 use Rattle.scan.specs.Set.{rank}
-use Rattle.writer.specs.Write.{outputLiteral, Put}
-use Rattle.writer.proofs.LiteralBytes.{output-plain, output-negated, output-none}
+use Rattle.writer.specs.Write.{outputLiteral}
+use Rattle.writer.specs.way.Write.{Put}
+use Rattle.writer.proofs.LiteralBodyLaws.{output-plain, output-negated, output-none}
 use Rattle.writer.proofs.WriteLaws.{put-nothing}
 use borrow.Author.Needs.{needs}
 use Rattle.writer.proofs.field.put_output_literal.Statement.{statement}

@@ -7,8 +7,9 @@ use native.Mathlib.Omega.{arith}
 use lib.ListN.{length}
 use lib.Bits.{bitOr}
 use denote.Ref.{now}
-use Rattle.writer.specs.Write.{readLiteral, Put}
-use Rattle.writer.proofs.LiteralBytes.{read-plain, read-negated, read-none}
+use Rattle.writer.specs.Write.{readLiteral}
+use Rattle.writer.specs.way.Write.{Put}
+use Rattle.writer.proofs.LiteralBodyLaws.{read-plain, read-negated, read-none}
 use Rattle.writer.proofs.WriteLaws.{put-nothing}
 use borrow.Author.Needs.{needs}
 use Rattle.writer.proofs.field.put_read_literal.Statement.{statement}

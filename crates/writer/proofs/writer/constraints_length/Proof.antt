@@ -4,9 +4,9 @@ use Prim.Native.Nat.{_+_, _-_, _*_, _≤_}
 use native.Mathlib.Omega.{arith}
 use lib.ListN.{take}
 use Rattle.scan.specs.Set.{constraint}
-use Rattle.scan.proofs.Formed.{counts, masks}
+use Rattle.scan.proofs.ShapeLaws.{counts, masks}
 use Rattle.writer.specs.Write.{literalBody, fieldsOf}
-use Rattle.writer.proofs.LiteralBytes.{masks-few}
+use Rattle.writer.proofs.LiteralBodyLaws.{masks-few}
 use Rattle.writer.proofs.WriteLaws.{constraints-grow, Counted, counted-none, counted-one, counted-all}
 use Rattle.writer.proofs.writer.constraints_length.Statement.{statement}
 use Rattle.writer.proofs.writer.constraints_length.Tie as tie

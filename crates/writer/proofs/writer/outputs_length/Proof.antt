@@ -4,7 +4,7 @@ use borrow.Author.Needs.{needs}
 use Prim.Native.Nat.{_+_, _-_, _*_, _≤_}
 use native.Mathlib.Omega.{arith}
 use lib.ListN.{take}
-use Rattle.scan.proofs.Formed.{counts}
+use Rattle.scan.proofs.ShapeLaws.{counts}
 use Rattle.writer.specs.Write.{outputBody, fieldsOf}
 use Rattle.writer.proofs.WriteLaws.{outputs-grow, Counted, counted-none, counted-one, counted-all}
 use Rattle.writer.proofs.writer.outputs_length.Statement.{statement}

@@ -8,7 +8,7 @@ use denote.Ref.{now}
 use Rattle.words.specs.Loop.{every}
 use Rattle.scan.specs.Set.{noConstraint, constraint}
 use Rattle.scan.specs.Shape.{constraintTests}
-use Rattle.scan.proofs.Formed.{counts, constraint-ok}
+use Rattle.scan.proofs.ShapeLaws.{counts, constraint-ok}
 use Rattle.writer.specs.Write.{literalBody, fieldsOf}
 use Rattle.writer.proofs.WriteLaws.{constraints-grow, Puts, puts-none, puts-kept, puts-room, puts-one, puts-all}
 use Rattle.writer.proofs.writer.put_constraints.Statement.{statement}

@@ -6,8 +6,9 @@ use Prim.Native.Nat.{ℕ, _+_, _≤_}
 use native.Mathlib.Omega.{arith}
 use lib.ListN.{length}
 use denote.Ref.{now}
-use Rattle.scan.proofs.Formed.{counts}
-use Rattle.writer.specs.Write.{fieldOf, writeOf, readFields, outputFields, constraintFields, putAt, Put}
+use Rattle.scan.proofs.ShapeLaws.{counts}
+use Rattle.writer.specs.Write.{fieldOf, writeOf}
+use Rattle.writer.specs.way.Write.{readFields, outputFields, constraintFields, putAt, Put}
 use Rattle.writer.proofs.WriteLaws.{put-then, countsPut, readsPut, outputsPut, constraintsPut, file-ends, room-counts, room-reads, room-outputs, room-constraints, room-end, next-room}
 use Rattle.writer.proofs.writer.put_file.Statement.{statement}
 use Rattle.writer.proofs.writer.put_file.Tie as tie

@@ -3,7 +3,7 @@ use Prim.Native.Nat.{_-_, _≤_}
 use native.Mathlib.Omega.{arith}
 use lib.ListN.{take}
 use denote.Ref.{now}
-use Rattle.scan.proofs.Formed.{counts}
+use Rattle.scan.proofs.ShapeLaws.{counts}
 use Rattle.writer.specs.Write.{outputBody, fieldsOf}
 use Rattle.writer.proofs.WriteLaws.{outputs-grow, Puts, puts-none, puts-kept, puts-room, puts-one, puts-all}
 use Rattle.writer.proofs.writer.put_outputs.Statement.{statement}

@@ -5,7 +5,7 @@ use Prim.Native.Nat.{_+_, _-_, _*_, _≤_}
 use native.Mathlib.Omega.{arith}
 use lib.ListN.{getD, take}
 use Rattle.scan.specs.Set.{noRead}
-use Rattle.scan.proofs.Formed.{counts}
+use Rattle.scan.proofs.ShapeLaws.{counts}
 use Rattle.writer.specs.Write.{readBody, fieldsOf}
 use Rattle.writer.proofs.WriteLaws.{read-long, reads-grow, Counted, counted-none, counted-one, counted-all}
 use Rattle.writer.proofs.writer.reads_length.Statement.{statement}

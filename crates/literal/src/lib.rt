@@ -1,0 +1,6 @@
+// The body of a constraint in a set file: its literals, two bytes each.
+mod literal; // literals taken into masks and ranks
+
+pub use literal::Literals;
+pub use literal::Taken;
+pub use literal::literals_of;

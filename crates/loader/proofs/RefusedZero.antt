@@ -1,0 +1,145 @@
+-- A refused load carries the zero set, and a loaded set has an output, so that it is not the zero set.
+-- Assumes nothing.
+use mathlib.Core.Path.{_≡_, refl, sym, ap, subst}
+use mathlib.Core.Logic.{_≢_}
+use mathlib.Core.Bool.{Bool, true, false, cond}
+use mathlib.Core.List.{List}
+use Prim.Native.Nat.{ℕ, zero, suc, _+_, _≤_}
+use native.Mathlib.Omega.{arith}
+use lib.Dec.{eqb, ltb}
+use lib.ListN.{length, getD, drop}
+use borrow.Author.Tests.{leb-true}
+use Rattle.words.specs.Loop.{every}
+use Rattle.words.proofs.BoolLaws.{every-at}
+use Rattle.scan.specs.declared.set.Constraint.{Constraint}
+use Rattle.scan.specs.declared.set.Set.{Set}
+use Rattle.scan.specs.Set.{zeroSet}
+use Rattle.scan.specs.Shape.{countTests}
+use Rattle.header.specs.declared.header.Header.{Header}
+use Rattle.header.specs.declared.header.Header.the-variants.{Refused as Stopped, Field}
+use Rattle.loader.specs.declared.point.Point.{Point}
+use Rattle.loader.specs.declared.point.Point.the-variants.{Refused as Denied, Good}
+use Rattle.literal.specs.declared.literal.Taken.{Taken}
+use Rattle.literal.specs.declared.literal.Taken.the-variants.{Refused as Failed, Next}
+use Rattle.loader.specs.declared.loader.Progress.{Progress}
+use Rattle.loader.specs.declared.loader.Progress.the-variants.{At, Refused}
+use Rattle.loader.specs.declared.loader.Loading.{Loading}
+use Rattle.loader.specs.declared.loader.LoadAnswer.the-variants.{Loaded, Refused as WasRefused}
+use Rattle.header.specs.Header.{headerOf, bodyOf}
+use Rattle.literal.specs.Literal.{literalsOf}
+use Rattle.loader.specs.Load.{refusal, goingOn, thenFrom, andThen, withCounts, countsGiven, countsAt, readField, readDone, readGiven, readAt, readsFrom, outputField, outputDone, outputGiven, outputAt, outputsFrom, constraintDone, constraintAt, endAt, constraintsGiven, constraintsFrom, afterCounts, afterReads, answerOf, loadFrom, loadOf}
+
+-- a refusal has the zero set, and a set on its way has an output
+abbrev Shown : Progress → Set → Type 0
+Shown (At at) s = 1 ≤ s .n
+Shown (Refused number at) s = s ≡ zeroSet
+
+abbrev Shows : Loading → Type 0
+Shows l = Shown (l .progress) (l .set)
+
+-- so with one part after another
+then-shows : (l : Loading) (next : ℕ → Set → Loading) → Shows l → ((at : ℕ) (s : Set) → 1 ≤ s .n → Shows (next at s)) → Shows (andThen l next)
+then-shows l next h f = go (l .progress) h
+  where
+    go : (p : Progress) → Shown p (l .set) → Shows (thenFrom p (l .set) next)
+    go (At at) e = f at (l .set) e
+    go (Refused number at) e = e
+
+cond-shows : (b : Bool) (l m : Loading) → (b ≡ true → Shows l) → Shows m → Shows (cond b l m)
+cond-shows true l m h f = h refl
+cond-shows false l m h f = f
+
+counts-show : (s : List ℕ) (h : Header) → Shows (countsGiven s h)
+unfolding countTests
+counts-show s (Stopped number) = refl
+counts-show s (Field tag len) =
+    let r = getD (bodyOf s len) 0 0 in
+    let n = getD (bodyOf s len) 1 0 in
+    cond-shows (every (countTests r n 0)) (goingOn (3 + len) (withCounts r n)) (refusal 5 0) (λ e. leb-true 1 n (every-at (countTests r n 0) e 1)) refl
+
+-- by the header, and by what a body says
+
+by-header : (given : Header → Loading) → ((number : ℕ) → Shows (given (Stopped number))) → ((tag len : ℕ) → Shows (given (Field tag len))) → (h : Header) → Shows (given h)
+by-header given f g (Stopped number) = f number
+by-header given f g (Field tag len) = g tag len
+
+by-point : (done : Point → Loading) → ((number : ℕ) → Shows (done (Denied number))) → Shows (done Good) → (t : Point) → Shows (done t)
+by-point done f g (Denied number) = f number
+by-point done f g Good = g
+
+-- so with one point after another
+points-show : (from : ℕ → ℕ → ℕ → Set → Loading) (one : ℕ → Set → ℕ → Loading) → ((i at : ℕ) (s : Set) → from 0 i at s ≡ goingOn at s)
+    → ((left i at : ℕ) (s : Set) → from (suc left) i at s ≡ andThen (one at s i) (from left (i + 1))) → ((i at : ℕ) (s : Set) → 1 ≤ s .n → Shows (one at s i))
+    → (left i at : ℕ) (s : Set) → 1 ≤ s .n → Shows (from left i at s)
+points-show from one none more shows zero i at s e = subst Shows (sym (none i at s)) e
+points-show from one none more shows (suc left) i at s e =
+    subst Shows (sym (more left i at s)) (then-shows (one at s i) (from left (i + 1)) (shows i at s e) (λ a t f. points-show from one none more shows left (i + 1) a t f))
+
+reads-show : (file : List ℕ) (left i at : ℕ) (s : Set) → 1 ≤ s .n → Shows (readsFrom file left i at s)
+unfolding readsFrom readAt
+reads-show file =
+    points-show (readsFrom file) (readAt file) (λ i at s. refl) (λ left i at s. refl)
+    (λ i at s e. by-header (readGiven file at s i) (λ number. refl)
+    (λ tag len. let f = readField (bodyOf (drop at file) len) s i in by-point (λ (t : Point). readDone at len s i t (f .read)) (λ number. refl) e (f .point))
+    (headerOf (drop at file) 2 0))
+
+outputs-show : (file : List ℕ) (left j at : ℕ) (s : Set) → 1 ≤ s .n → Shows (outputsFrom file left j at s)
+unfolding outputsFrom outputAt
+outputs-show file =
+    points-show (outputsFrom file) (outputAt file) (λ j at s. refl) (λ left j at s. refl)
+    (λ j at s e. by-header (outputGiven file at s j) (λ number. refl)
+    (λ tag len. let f = outputField (bodyOf (drop at file) len) s j in by-point (λ (t : Point). outputDone at len s j t (f .output)) (λ number. refl) e (f .point))
+    (headerOf (drop at file) 3 0))
+
+constraint-shows : (s : List ℕ) (at len : ℕ) (set : Set) → 1 ≤ set .n → Shows (constraintAt s at len set)
+unfolding constraintAt
+constraint-shows s at len set e = go (literalsOf (set .r) (set .n) (bodyOf (drop at s) len) .taken)
+  where
+    c : Constraint
+    c = literalsOf (set .r) (set .n) (bodyOf (drop at s) len) .made
+
+    go : (t : Taken) → Shows (constraintDone at len set t c)
+    go (Failed number) = refl
+    go (Next next) = e
+
+given-shows : (s : List ℕ) (at : ℕ) (set : Set) (next : ℕ → Set → Loading) → 1 ≤ set .n → ((a : ℕ) (t : Set) → 1 ≤ t .n → Shows (next a t)) → (h : Header) → Shows (constraintsGiven s at set next h)
+given-shows s at set next e f (Stopped number) = refl
+given-shows s at set next e f (Field tag len) =
+    cond-shows (eqb tag 5) (endAt s at set) (andThen (constraintAt s at len set) next)
+    (λ t. end (ltb (at + 3) (length s))) (then-shows (constraintAt s at len set) next (constraint-shows s at len set e) f)
+  where
+    end : (b : Bool) → Shows (cond b (refusal 12 (at + 3)) (goingOn (at + 3) set))
+    end true = refl
+    end false = e
+
+constraints-show : (s : List ℕ) (left at : ℕ) (set : Set) → 1 ≤ set .n → Shows (constraintsFrom s left at set)
+unfolding constraintsFrom
+constraints-show s zero at set e = refl
+constraints-show s (suc left) at set e =
+    given-shows s at set (constraintsFrom s left) e (λ a t f. constraints-show s left a t f) (headerOf (drop at s) 4 (set .m))
+
+load-shows : (file : List ℕ) → Shows (loadFrom file)
+unfolding loadFrom countsAt
+load-shows file =
+    then-shows (countsAt file) (afterCounts file) (counts-show file (headerOf file 1 0))
+    (λ a s e. then-shows (readsFrom file (s .r) 0 a s) (afterReads file) (reads-show file (s .r) 0 a s e)
+    (λ b t f. then-shows (outputsFrom file (t .n) 0 b t) (constraintsFrom file 65) (outputs-show file (t .n) 0 b t f)
+    (λ d u g. constraints-show file 65 d u g)))
+
+-- A refused load carries the zero set.
+pub refused-zero : (file : List ℕ) (c o : ℕ) → loadOf file .answer ≡ WasRefused c o → loadOf file .set ≡ zeroSet
+unfolding loadOf
+refused-zero file c o e = go (loadFrom file .progress) e (load-shows file)
+  where
+    go : (p : Progress) → answerOf p ≡ WasRefused c o → Shown p (loadFrom file .set) → loadFrom file .set ≡ zeroSet
+    go (At at) t h = let z : _≡_ {A = ℕ} 0 1 = cc in absurd (omega arith)
+    go (Refused number at) t h = h
+
+-- A loaded set is not the zero set: it has an output.
+pub zero-not-loaded : (file : List ℕ) → loadOf file .answer ≡ Loaded → loadOf file .set ≢ zeroSet
+unfolding loadOf zeroSet
+zero-not-loaded file e z = go (loadFrom file .progress) e (load-shows file)
+  where
+    go : (p : Progress) → answerOf p ≡ Loaded → Shown p (loadFrom file .set) → ⊥
+    go (At at) t h = let none : loadFrom file .set .n ≡ 0 = ap (λ (s : Set). s .n) z in omega arith
+    go (Refused number at) t h = let w : _≡_ {A = ℕ} 0 1 = cc in omega arith

@@ -1,0 +1,28 @@
+-- The code's way to a file: its parts, and a buffer with bytes put into it.
+-- Assumes nothing.
+use Prim.Native.Nat.{ℕ, _+_}
+use mathlib.Core.Path.{_≡_}
+use mathlib.Core.List.{List, _++_}
+use lib.ListN.{length, take, drop}
+use Rattle.scan.specs.declared.set.Set.{Set}
+use Rattle.writer.specs.Write.{fieldsOf, readBody, outputBody, literalBody}
+
+-- the fields of a set's read points
+abbrev pub readFields : Set → List ℕ
+readFields s = fieldsOf 0x02 readBody (take (s .r) (s .reads))
+
+-- the fields of its outputs
+abbrev pub outputFields : Set → List ℕ
+outputFields s = fieldsOf 0x03 outputBody (take (s .n) (s .outputs))
+
+-- the fields of its constraints
+abbrev pub constraintFields : Set → List ℕ
+constraintFields s = fieldsOf 0x04 literalBody (take (s .m) (s .constraints))
+
+-- the buffer with bytes put at a place
+abbrev pub putAt : List ℕ → ℕ → List ℕ → List ℕ
+putAt buf at bytes = take at buf ++ (bytes ++ drop (at + length bytes) buf)
+
+-- bytes were put at a place: the buffer after that, and the place behind them
+abbrev pub Put : List ℕ → ℕ → List ℕ → List ℕ → ℕ → Type 0
+Put buf at bytes after next = (after ≡ putAt buf at bytes) × (next ≡ at + length bytes)
