@@ -40,9 +40,8 @@ pub fn judge_file(file: &[u8], scratch: &mut [u8]) -> Line
 {
     let loaded = load(file);
     let answer = loaded.answer;
-    let set = loaded.set;
     match answer {
-        LoadAnswer::Loaded => verdict_line(set, judge(set, scratch)),
+        LoadAnswer::Loaded => verdict_line(loaded.set, judge(loaded.set, scratch)),
         LoadAnswer::Refused { number, offset } => Line::Load { number, offset },
     }
 }

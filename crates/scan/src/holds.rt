@@ -1,10 +1,10 @@
 // The outputs that simple constraints hold at a read word, and the vector that a walk starts from.
+use super::choice::keep16;
 use super::constraint::are_reads_true;
 use super::constraint::is_simple;
 use super::set::Constraint;
 use super::set::Set;
 use words::both;
-use words::keep16;
 ghost use mathlib.Core.Path.{_≡_};
 ghost use mathlib.Core.Bool.{_&&_};
 ghost use Prim.Native.Nat.{_≤_, min};

@@ -13,7 +13,6 @@ use super::set::MOST_OUTPUTS;
 use super::set::Set;
 use words::both;
 use words::either;
-use words::keep16;
 use words::least;
 ghost use mathlib.Core.Path.{_≡_};
 ghost use mathlib.Core.Bool.{cond};

@@ -17,20 +17,7 @@ pub fn either(a: bool, b: bool) -> bool
     if a { true } else { b }
 }
 
-// x if the test passed, else y.
-pub fn pick16(test: bool, x: u16, y: u16) -> u16
-    ensures { λ r. ⌜ r ≡ cond test x y ⌝ }
-{
-    if test { x } else { y }
-}
-
 // x if the test passed, else 0.
-pub fn keep16(test: bool, x: u16) -> u16
-    ensures { λ r. ⌜ r ≡ cond test x 0 ⌝ }
-{
-    pick16(test, x, 0)
-}
-
 pub fn keep32(test: bool, x: u32) -> u32
     ensures { λ r. ⌜ r ≡ cond test x 0 ⌝ }
 {
@@ -38,12 +25,6 @@ pub fn keep32(test: bool, x: u32) -> u32
 }
 
 // The lesser of the two.
-pub fn least16(x: u16, y: u16) -> u16
-    ensures { λ r. ⌜ r ≡ min x y ⌝ }
-{
-    if y < x { y } else { x }
-}
-
 pub fn least(x: usize, y: usize) -> usize
     ensures { λ r. ⌜ r ≡ min x y ⌝ }
 {

@@ -3,11 +3,8 @@ mod choice; // choices and tests as values
 
 pub use choice::both;
 pub use choice::either;
-pub use choice::keep16;
 pub use choice::keep32;
 pub use choice::least;
-pub use choice::least16;
-pub use choice::pick16;
 ghost use mathlib.Core.Path.{_≡_};
 ghost use mathlib.Core.Bool.{Bool};
 ghost use Prim.Native.Nat.{_^_, min};

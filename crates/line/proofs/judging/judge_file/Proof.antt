@@ -29,7 +29,7 @@ returns : tie.Need-returns
 returns c =
     let j = c .before .before .before in
     let t = j .before .before in
-    let f = t .before .before .before in
+    let f = t .before .before in
     let a = f .before .before .before .args in (
       file-judged (now (a .file)) (length (now (a .scratch))) (f .load .result) (f .load .ensures) (t .enum-told .given .1)
           (j .judge .result) (j .judge .ensures .0) (c .verdict-line .result) (c .verdict-line .ensures),
@@ -39,7 +39,7 @@ returns c =
 returns-2 : tie.Need-returns-2
 returns-2 c =
     let k = c .before in
-    let f = k .before .before .before in
+    let f = k .before .before in
     let a = f .before .before .before .args in
     (file-refused (now (a .file)) (length (now (a .scratch))) (f .load .result) (f .load .ensures) _ _ (k .answer .given .1), refl)
 

@@ -13,6 +13,10 @@ use borrow.Author.Needs.{needs}
 use Rattle.verdict.proofs.starting.state_of.Statement.{statement}
 use Rattle.verdict.proofs.starting.state_of.Tie as tie
 
+-- acceptance leads to a fresh state
+accepted : (s : Set) (v : Verdict) → v ≡ Accepted → freshState s ≡ startState s v
+accepted s v e = ap (startState s) (sym e)
+
 -- any verdict but acceptance leads to the zero state
 rejected : (s : Set) (v : Verdict) → OneOf (1 ∷ 2 ∷ 3 ∷ 4 ∷ []) (tagOf the-type v) → zeroState ≡ startState s v
 rejected s Accepted h = absurd (miss (1 ∷ 2 ∷ 3 ∷ 4 ∷ []) 0 tt h)
@@ -30,7 +34,7 @@ fresh-requires c κs = search needs
 returns : tie.Need-returns
 returns c =
     let a = c .before .before .before .args in
-    c .fresh .ensures ∙ ap (startState (a .set)) (sym (c .before .enum-told .given .1))
+    c .fresh .ensures ∙ accepted (a .set) (a .verdict) (c .before .enum-told .given .1)
 
 zero-set-requires : tie.Need-zero-set-requires
 zero-set-requires c κs = search needs
