@@ -4,7 +4,7 @@ use Prim.Native.Nat.{ℕ, zero, suc, _+_, _/_, _%_}
 use mathlib.Core.Bool.{cond}
 use mathlib.Core.List.{List, [], _∷_, _++_}
 use lib.Dec.{leb, eqb}
-use lib.ListN.{length, take, drop}
+use lib.ListN.{length, drop}
 use Rattle.scan.specs.declared.set.Set.{Set}
 use Rattle.loader.specs.declared.loader.LoadAnswer.{LoadAnswer}
 use Rattle.loader.specs.declared.loader.LoadAnswer.the-variants.{Loaded, Refused}
@@ -14,7 +14,6 @@ use Rattle.verdict.specs.declared.verdict.Verdict.the-variants.{Accepted, BadSe
 use Rattle.verdict.specs.Judge.{judgeOf, looseBytes}
 use Rattle.line.specs.declared.printer.Line.{Line}
 use Rattle.line.specs.declared.printer.Line.the-variants.{Accept, Load, NoVector, NoEnd}
-use Rattle.line.specs.declared.text.Text.{Text}
 
 -- ---- numbers
 
@@ -81,9 +80,3 @@ answerLoose s room (Refused number offset) = 0
 -- how many bytes of the scratch are free after the line of a file
 unfoldable pub looseOf : List ℕ → ℕ → ℕ
 looseOf file room = answerLoose (loadOf file .set) room (loadOf file .answer)
-
--- ---- the code's way
-
--- the bytes of a text
-abbrev pub textBytes : Text → List ℕ
-textBytes t = take (t .len) (t .bytes)

@@ -7,7 +7,8 @@ ghost use mathlib.Core.Path.{_≡_};
 ghost use Prim.Native.Nat.{_+_, _≤_};
 ghost use lib.ListN.{length};
 ghost use Rattle.writer.specs.way.Write.{putAt};
-ghost use Rattle.line.specs.Line.{lineBytes, lineAnswer, bufferAfter, textBytes};
+ghost use Rattle.line.specs.Line.{lineBytes, lineAnswer, bufferAfter};
+ghost use Rattle.line.specs.way.Text.{textBytes};
 
 // Accepted, with the counts of read points, outputs and constraints; or the refusal of the load and its offset; or why the verdict rejects the set.
 pub enum Line {

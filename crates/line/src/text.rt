@@ -3,7 +3,8 @@ ghost use mathlib.Core.Path.{_≡_};
 ghost use mathlib.Core.List.{[], _∷_, _++_};
 ghost use Prim.Native.Nat.{_+_, _≤_, _<_};
 ghost use lib.ListN.{length, take, drop};
-ghost use Rattle.line.specs.Line.{decimal, spaced, textBytes};
+ghost use Rattle.line.specs.Line.{decimal, spaced};
+ghost use Rattle.line.specs.way.Text.{textBytes};
 
 // A word of at most 8 bytes, three numbers of at most 20 digits with a space before each, and the line's end fit.
 pub const LONGEST_LINE: usize = 80;

@@ -1,11 +1,11 @@
 // Literals: bit 7 marks a negated one, bit 6 an output, bits 5 and 4 are zero, then the point's number; and the rank.
+use choice::both;
+use choice::least;
 use header::BAD_LITERAL;
 use header::NO_OUTPUT;
 use header::NOT_RISING;
 use scan::Constraint;
 use scan::MOST_OUTPUTS;
-use words::both;
-use words::least;
 ghost use mathlib.Core.Path.{_≡_};
 ghost use mathlib.Core.Bool.{cond};
 ghost use Prim.Native.Nat.{_^_, min};

@@ -1,5 +1,7 @@
 // The scan machine: one scan of a state.
 use super::past::read_word;
+use choice::both;
+use choice::keep32;
 use scan::Set;
 use scan::State;
 use scan::Walk;
@@ -8,8 +10,6 @@ use scan::start_vector;
 use scan::walk_over;
 use shape::is_sensor;
 use shape::well_formed;
-use words::both;
-use words::keep32;
 ghost use mathlib.Core.Path.{_≡_};
 ghost use mathlib.Core.Bool.{true};
 ghost use Prim.Native.Nat.{_≤_};

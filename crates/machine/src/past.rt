@@ -1,7 +1,7 @@
 // The read word of a scan: the sensor word, with past points filled from the state.
+use choice::keep32;
 use scan::Kind;
 use scan::Set;
-use words::keep32;
 ghost use mathlib.Core.Path.{_≡_};
 ghost use Prim.Native.Nat.{_≤_};
 ghost use Rattle.machine.specs.Past.{reading, readWord};

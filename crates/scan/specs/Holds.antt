@@ -6,7 +6,6 @@ use lib.Bits.{bitOr}
 use Rattle.words.specs.Word.{low, without, popcount}
 use Rattle.words.specs.Loop.{gather}
 use Rattle.scan.specs.declared.set.Set.{Set}
-use Rattle.scan.specs.declared.holds.Holds.{Holds}
 use Rattle.scan.specs.Set.{constraint}
 use Rattle.scan.specs.Constraint.{readsTrue, simple}
 
@@ -30,10 +29,6 @@ F0 s w = gather (s .m) (toZero s w)
 unfoldable pub F1 : Set → ℕ → ℕ
 F1 s w = gather (s .m) (toOne s w)
 
--- the two together
-abbrev pub holdsOf : Set → ℕ → Holds
-holdsOf s w = record { f0 = F0 s w; f1 = F1 s w }
-
 -- of n outputs those that neither mask has
 unfoldable pub unheldBy : ℕ → ℕ → ℕ → ℕ
 unheldBy n f0 f1 = without (low n) (bitOr f0 f1)
@@ -45,10 +40,6 @@ unheld s w = unheldBy (s .n) (F0 s w) (F1 s w)
 -- f, the number of outputs not held: the count of ones of the unheld mask
 unfoldable pub unheldCount : Set → ℕ → ℕ
 unheldCount s w = popcount (unheld s w)
-
--- the most passes of a walk where the outputs of the mask are unheld: 2 ^ f - 1
-abbrev pub limitBy : ℕ → ℕ
-limitBy mask = 2 ^ popcount mask - 1
 
 -- the most passes of a walk: 2 ^ f - 1
 abbrev pub passLimit : Set → ℕ → ℕ

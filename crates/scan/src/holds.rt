@@ -1,15 +1,16 @@
 // The outputs that simple constraints hold at a read word, and the vector that a walk starts from.
-use super::choice::keep16;
 use super::constraint::are_reads_true;
 use super::constraint::is_simple;
+use super::pick::keep16;
 use super::set::Constraint;
 use super::set::Set;
-use words::both;
+use choice::both;
 ghost use mathlib.Core.Path.{_≡_};
 ghost use mathlib.Core.Bool.{_&&_};
 ghost use Prim.Native.Nat.{_≤_, min};
 ghost use Rattle.scan.specs.Constraint.{readsTrue, simple};
-ghost use Rattle.scan.specs.Holds.{holdsOf, unheldBy, limitBy, startFrom};
+ghost use Rattle.scan.specs.Holds.{unheldBy, startFrom};
+ghost use Rattle.scan.specs.way.Holds.{holdsOf, limitBy};
 
 // The outputs held to 0 (F0) and to 1 (F1).
 pub struct Holds {

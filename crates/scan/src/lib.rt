@@ -1,5 +1,5 @@
 // The scan part of the ranked safety filter: what a set is, and the walk at a read word. It knows nothing of files and of the verdict.
-mod choice; // choices between words as values
+mod pick; // choices between words as values
 mod set; // what a set and a state are made of
 mod constraint; // one constraint at a read word
 mod holds; // the outputs that simple constraints hold, and the start vector

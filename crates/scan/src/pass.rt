@@ -1,9 +1,9 @@
 // Which outputs of a constraint yield: of those not held, those of the lowest rank.
-use super::choice::keep16;
-use super::choice::least16;
-use super::choice::pick16;
+use super::pick::keep16;
+use super::pick::least16;
+use super::pick::pick16;
 use super::set::Constraint;
-use words::both;
+use choice::both;
 ghost use mathlib.Core.Path.{_≡_};
 ghost use mathlib.Core.Bool.{cond};
 ghost use Prim.Native.Nat.{_≤_, _<_, _^_};

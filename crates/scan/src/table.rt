@@ -11,15 +11,16 @@ use super::set::Constraint;
 use super::set::MOST_CONSTRAINTS;
 use super::set::MOST_OUTPUTS;
 use super::set::Set;
-use words::both;
-use words::either;
-use words::least;
+use choice::both;
+use choice::either;
+use choice::least;
 ghost use mathlib.Core.Path.{_≡_};
 ghost use mathlib.Core.Bool.{cond};
 ghost use Prim.Native.Nat.{_≤_};
 ghost use lib.Dec.{eqb};
 ghost use lib.Bits.{bitAnd};
-ghost use Rattle.scan.specs.Holds.{holdsOf, unheld};
+ghost use Rattle.scan.specs.Holds.{unheld};
+ghost use Rattle.scan.specs.way.Holds.{holdsOf};
 ghost use Rattle.scan.specs.way.Table.{capped, active, tableUpto, tableOf, passOver, anyTrue, safeOver};
 
 // The entries below count: the outputs named plain, all the outputs named, and those that yield.

@@ -15,7 +15,7 @@ use Rattle.scan.specs.declared.set.Constraint.{Constraint}
 use Rattle.scan.specs.Set.{rank, outs}
 use Rattle.scan.specs.Shape.{rankOk}
 use Rattle.scan.proofs.ShapeLaws.{Masks, outs-lt}
-use Rattle.setfile.proofs.Places.{by-four, mask}
+use Rattle.setfile.proofs.LiteralPlaces.{by-four, mask}
 use Rattle.setfile.proofs.OneLiteral.{size}
 
 -- its masks are within the set's points, no point is in two of them, ranks are of outputs named, and an output is named

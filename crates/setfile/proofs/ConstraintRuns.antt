@@ -30,15 +30,15 @@ use Rattle.header.specs.Header.{headerOf, bodyOf, fitsTable}
 use Rattle.literal.specs.Literal.{literalsFrom, literalsOf}
 use Rattle.loader.specs.Load.{refusal, goingOn, andThen, constraintDone, constraintGiven, constraintAt, endAt, constraintsGiven, constraintsFrom}
 use Rattle.writer.specs.Write.{fieldOf, readLiteral, outputLiteral, joined, literalBody}
-use Rattle.setfile.proofs.Places.{mask}
-use Rattle.setfile.proofs.Joins.{worth, told, literal, joined-long}
+use Rattle.setfile.proofs.LiteralPlaces.{mask}
+use Rattle.setfile.proofs.BodyPlaces.{worth, told, literal, joined-long}
 use Rattle.setfile.proofs.OneLiteral.{size}
 use Rattle.setfile.proofs.ConstraintBits.{Fine, fine}
 use Rattle.setfile.proofs.LiteralsBack.{literals-back}
 use Rattle.setfile.proofs.LiteralsTaken.{literals-taken}
 use Rattle.header.proofs.HeaderLaws.{table-bounds, due-is}
 use Rattle.setfile.proofs.Fields.{body-back, field-back, found}
-use Rattle.setfile.proofs.Runs.{Run, Moved}
+use Rattle.setfile.proofs.FieldRuns.{Run, Moved}
 
 -- ---- how long a body is
 

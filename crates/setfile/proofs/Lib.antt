@@ -1,5 +1,5 @@
-pub mod Places
-pub mod Joins
+pub mod LiteralPlaces
+pub mod BodyPlaces
 pub mod OneLiteral
 pub mod ConstraintBits
 pub mod LiteralsBack
@@ -8,11 +8,11 @@ pub mod Fields
 pub mod NamesBack
 pub mod PointsFit
 pub mod PointFields
-pub mod Runs
+pub mod FieldRuns
 pub mod PointRuns
 pub mod ConstraintRuns
 pub mod PointKinds
-pub mod Blanks
+pub mod ZeroPlaces
 pub mod LoadWritten
 pub mod WrittenBytes
 pub mod WholeSets

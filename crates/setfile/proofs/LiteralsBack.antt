@@ -18,8 +18,8 @@ use Rattle.scan.proofs.ShapeLaws.{Masks}
 use Rattle.literal.specs.declared.literal.Taken.the-variants.{Next}
 use Rattle.literal.specs.Literal.{literalsFrom, literalsOf}
 use Rattle.writer.specs.Write.{joined, literalBody}
-use Rattle.setfile.proofs.Places.{byte, placeOf, mask, added, alike, alike-true, unlike, bit-hit, bit-sign, bit-miss, rank-hit, rank-miss}
-use Rattle.setfile.proofs.Joins.{worth, told, literal, placed, room, placed-at, by-place, body-placed}
+use Rattle.setfile.proofs.LiteralPlaces.{byte, placeOf, mask, added, alike, alike-true, unlike, bit-hit, bit-sign, bit-miss, rank-hit, rank-miss}
+use Rattle.setfile.proofs.BodyPlaces.{worth, told, literal, placed, room, placed-at, by-place, body-placed}
 use Rattle.setfile.proofs.ConstraintBits.{Fine, fine}
 use Rattle.setfile.proofs.OneLiteral.{size, Below, below-zero, below-added, literal-taken}
 

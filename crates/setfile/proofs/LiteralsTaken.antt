@@ -24,8 +24,8 @@ use Rattle.literal.specs.declared.literal.Taken.the-variants.{Next}
 use Rattle.header.specs.Bytes.{Bytes}
 use Rattle.literal.specs.Literal.{isOutput, isNegated, number, place, isLiteral, withLiteral, refusedLiterals, literalThen, literalsFrom, literalsOf}
 use Rattle.writer.specs.Write.{joined, literalBody}
-use Rattle.setfile.proofs.Places.{byte, byte-is, placeOf, place-says, mask, added, with-added, alike, alike-true, bit-hit, bit-sign, bit-else, bit-miss, rank-hit, rank-miss}
-use Rattle.setfile.proofs.Joins.{room, placed, body-placed, joined-same}
+use Rattle.setfile.proofs.LiteralPlaces.{byte, byte-is, placeOf, place-says, mask, added, with-added, alike, alike-true, bit-hit, bit-sign, bit-else, bit-miss, rank-hit, rank-miss}
+use Rattle.setfile.proofs.BodyPlaces.{room, placed, body-placed, joined-same}
 use Rattle.setfile.proofs.OneLiteral.{size, Below, below-zero, below-added, blank-place, body-added, literal-is}
 
 -- a rank is a byte, and zero where the output is not named

@@ -18,8 +18,8 @@ use Rattle.loader.specs.Load.{goingOn, andThen, refusal, withCounts, countsGive
 use Rattle.writer.specs.Write.{fieldOf, readBody, outputBody, literalBody, fieldsOf, writeOf}
 use Rattle.setfile.proofs.Fields.{field-back}
 use Rattle.setfile.proofs.PointsFit.{read-fits, output-fits}
-use Rattle.setfile.proofs.Blanks.{read-blank, output-blank, constraint-blank}
-use Rattle.setfile.proofs.Runs.{run-back}
+use Rattle.setfile.proofs.ZeroPlaces.{read-blank, output-blank, constraint-blank}
+use Rattle.setfile.proofs.FieldRuns.{run-back}
 use Rattle.setfile.proofs.PointRuns.{points-back}
 use Rattle.setfile.proofs.PointKinds.{readPoints, outputsBase, outputPoints}
 use Rattle.setfile.proofs.ConstraintRuns.{constraintRun, constraint-step, end-back}

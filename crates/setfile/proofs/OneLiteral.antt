@@ -16,8 +16,8 @@ use Rattle.scan.specs.declared.set.Constraint.{Constraint}
 use Rattle.scan.specs.Set.{rank, zeroConstraint}
 use Rattle.literal.specs.Literal.{isOutput, spare, number, place, isLiteral, withLiteral, literalThen, literalsFrom}
 use Rattle.writer.specs.Write.{literalBody}
-use Rattle.setfile.proofs.Places.{by-four, byte, placeOf, Says, byte-says, place-says, mask, added, with-added, alike-true, bit-hit, bit-sign, bit-miss, mask-wide, rank-hit, rank-miss, ranks-added}
-use Rattle.setfile.proofs.Joins.{worth, told, literal, placed, room, placed-at, by-place, joined-add, body-placed}
+use Rattle.setfile.proofs.LiteralPlaces.{by-four, byte, placeOf, Says, byte-says, place-says, mask, added, with-added, alike-true, bit-hit, bit-sign, bit-miss, mask-wide, rank-hit, rank-miss, ranks-added}
+use Rattle.setfile.proofs.BodyPlaces.{worth, told, literal, placed, room, placed-at, by-place, joined-add, body-placed}
 
 -- how many outputs or read points a set has
 abbrev pub size : ℕ → ℕ → Bool → ℕ

@@ -29,7 +29,7 @@ use Rattle.header.proofs.HeaderLaws.{table-bounds}
 use Rattle.setfile.proofs.NamesBack.{name-bounds}
 use Rattle.setfile.proofs.PointsFit.{ReadFits, OutputFits, read-local, output-local}
 use Rattle.setfile.proofs.PointFields.{read-back, read-taken, output-back, output-taken}
-use Rattle.setfile.proofs.Runs.{Run}
+use Rattle.setfile.proofs.FieldRuns.{Run}
 use Rattle.setfile.proofs.PointRuns.{pointDone, pointGiven, PointRun}
 
 -- ---- read points

@@ -24,7 +24,7 @@ use Rattle.loader.specs.Load.{refusal, goingOn, andThen}
 use Rattle.writer.specs.Write.{fieldOf, fieldsOf}
 use Rattle.header.proofs.HeaderLaws.{due-is}
 use Rattle.setfile.proofs.Fields.{body-back, field-back, found}
-use Rattle.setfile.proofs.Runs.{Run, begun, Moved, Done, run-back, run-taken}
+use Rattle.setfile.proofs.FieldRuns.{Run, begun, Moved, Done, run-back, run-taken}
 
 -- A body says whether it gives a point of the set so far, and which.
 module _ {A : Type 0} (file : List ℕ) (R : Run A) (said : List ℕ → Set → ℕ → Point) (value : List ℕ → Set → ℕ → A) where

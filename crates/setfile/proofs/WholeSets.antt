@@ -18,7 +18,7 @@ use Rattle.scan.specs.Set.{zeroRead, zeroOutput, zeroConstraint, readPoint, out
 use Rattle.scan.specs.Names.{nameZero}
 use Rattle.scan.specs.Shape.{countTests, lengthTests, readOk, readZero, readPlace, outputOk, outputPlace, constraintTests, constraintZero, constraintPlace, setTests, wellFormed}
 use Rattle.setfile.proofs.PointsFit.{ReadFits, OutputFits, fits-read, fits-output}
-use Rattle.setfile.proofs.Runs.{Filled}
+use Rattle.setfile.proofs.FieldRuns.{Filled}
 
 -- each place passes its test, up to the count and beyond it
 placed : (N M : ℕ) (ok blank : ℕ → Bool) → ((k : ℕ) → k < N → ok k ≡ true) → ((k : ℕ) → N ≤ k → k < M → blank k ≡ true) → all M (λ k. cond (ltb k N) (ok k) (blank k)) ≡ true

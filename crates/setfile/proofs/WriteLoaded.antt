@@ -25,7 +25,7 @@ use Rattle.loader.specs.Load.{refusal, goingOn, thenFrom, andThen, withCounts, 
 use Rattle.writer.specs.Write.{fieldOf, fieldsOf, readBody, outputBody, literalBody, writeOf}
 use Rattle.header.proofs.HeaderLaws.{table-bounds, due-is}
 use Rattle.setfile.proofs.Fields.{two-bytes, found}
-use Rattle.setfile.proofs.Runs.{Done, run-taken}
+use Rattle.setfile.proofs.FieldRuns.{Done, run-taken}
 use Rattle.setfile.proofs.PointRuns.{points-taken}
 use Rattle.setfile.proofs.PointKinds.{readsBase, readRun, readPoints, outputsBase, outputRun, outputPoints}
 use Rattle.setfile.proofs.ConstraintRuns.{constraintsBase, constraintRun, EndHere, constraints-zero, constraint-moved}

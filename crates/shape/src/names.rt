@@ -1,13 +1,13 @@
 // Names of points: eight byte places by value, compared byte by byte.
+use choice::both;
+use choice::either;
+use choice::least;
 use scan::MOST_OUTPUTS;
 use scan::MOST_READS;
 use scan::NAME_PLACES;
 use scan::OutputPoint;
 use scan::ReadPoint;
 use scan::Set;
-use words::both;
-use words::either;
-use words::least;
 ghost use mathlib.Core.Path.{_≡_};
 ghost use mathlib.Core.Bool.{false};
 ghost use Prim.Native.Nat.{_≤_, min};

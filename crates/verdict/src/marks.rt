@@ -1,7 +1,7 @@
 // Marks at one read word: a byte of scratch for each vector, 1 where passes from the vector are known to lead to a safe one.
+use choice::either;
 use scan::is_safe;
 use scan::pass_over;
-use words::either;
 ghost use mathlib.Core.Path.{_≡_};
 ghost use mathlib.Core.Bool.{cond};
 ghost use Prim.Native.Nat.{_≤_};

@@ -1,10 +1,4 @@
 // Numbers as bit words: bit k of a word is its binary digit k. Every function is total: a number past a word's width is a case like the others.
-mod choice; // choices and tests as values
-
-pub use choice::both;
-pub use choice::either;
-pub use choice::keep32;
-pub use choice::least;
 ghost use mathlib.Core.Path.{_≡_};
 ghost use mathlib.Core.Bool.{Bool};
 ghost use Prim.Native.Nat.{_^_, min};

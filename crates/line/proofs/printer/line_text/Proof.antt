@@ -1,6 +1,6 @@
 -- `line::printer::line_text` meets its contract: for each line its word, its numbers and the line's end, one behind the other. Assumes nothing.
 use native.Mathlib.Omega.{arith}
-use Rattle.line.specs.Line.{textBytes}
+use Rattle.line.specs.way.Text.{textBytes}
 use Rattle.line.proofs.LineLaws.{accept-made, load-made, no-vector-made, no-end-made}
 use borrow.Author.Needs.{needs}
 use Rattle.line.proofs.printer.line_text.Statement.{statement}

@@ -4,7 +4,7 @@ use mathlib.Core.Path.{_≡_, ap, _∙_}
 use Prim.Native.Nat.{ℕ, _-_, _≤_}
 use native.Mathlib.Omega.{arith}
 use lib.ListN.{length, take}
-use Rattle.line.specs.Line.{textBytes}
+use Rattle.line.specs.way.Text.{textBytes}
 use Rattle.line.proofs.TextLaws.{word-more}
 use Rattle.line.proofs.text.word_text.Statement.{statement}
 use Rattle.line.proofs.text.word_text.Tie as tie

@@ -7,7 +7,8 @@ use Rattle.words.proofs.LoopTurns.{gather-none, kept-turn}
 use Rattle.scan.specs.declared.set.Set.{Set}
 use Rattle.scan.specs.declared.holds.Holds.{Holds}
 use Rattle.scan.specs.Set.{constraint}
-use Rattle.scan.specs.Holds.{holding, toZero, toOne, F0, F1, holdsOf}
+use Rattle.scan.specs.Holds.{holding, toZero, toOne, F0, F1}
+use Rattle.scan.specs.way.Holds.{holdsOf}
 use borrow.Author.Needs.{needs}
 use Rattle.scan.proofs.holds.hold.Statement.{statement}
 use Rattle.scan.proofs.holds.hold.Tie as tie

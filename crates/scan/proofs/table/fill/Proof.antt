@@ -10,7 +10,8 @@ use Rattle.scan.specs.declared.set.Set.{Set}
 use Rattle.scan.specs.declared.holds.Holds.{Holds}
 use Rattle.scan.specs.declared.table.Table.{Table}
 use Rattle.scan.specs.Set.{constraint, outs}
-use Rattle.scan.specs.Holds.{holdsOf, unheld, unheldCount, limitBy, passLimit}
+use Rattle.scan.specs.Holds.{unheld, unheldCount, passLimit}
+use Rattle.scan.specs.way.Holds.{holdsOf, limitBy}
 use Rattle.scan.specs.Pass.{yielding, yields}
 use Rattle.scan.specs.way.Table.{active, withEntry, tableUpto}
 use Rattle.scan.proofs.TableLaws.{upto-none, upto-on, upto-off}

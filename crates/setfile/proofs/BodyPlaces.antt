@@ -14,7 +14,7 @@ use Rattle.words.specs.Word.{bit}
 use Rattle.scan.specs.declared.set.Constraint.{Constraint}
 use Rattle.scan.specs.Set.{rank}
 use Rattle.writer.specs.Write.{readLiteral, outputLiteral, joined, literalBody}
-use Rattle.setfile.proofs.Places.{byte, placeOf, mask}
+use Rattle.setfile.proofs.LiteralPlaces.{byte, placeOf, mask}
 
 -- ---- what is joined
 
