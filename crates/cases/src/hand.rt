@@ -256,7 +256,7 @@ fn print_judged(set: Set, scratch: &mut [u8], from: usize) {
     let v = verdict::judge(set, scratch);
     print_told(v);
     print_test(is_filled(scratch, from));
-    let started = verdict::start(set, scratch);
+    let started = start::start(set, scratch);
     print_test(is_filled(scratch, from));
     let w = started.verdict;
     print_told(w);

@@ -197,7 +197,7 @@ fn print_scans(start: State, calls: &[u8]) {
 
 fn print_verdict(set: Set, calls: &[u8]) {
     let mut scratch = io::buffer();
-    let started = verdict::start(set, &mut scratch);
+    let started = start::start(set, &mut scratch);
     let v = started.verdict;
     match v {
         Verdict::Accepted => {

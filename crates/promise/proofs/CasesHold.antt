@@ -16,7 +16,7 @@ use Rattle.machine.specs.Past.{readingAt, readWord}
 use Rattle.machine.specs.Machine.{stateOk, isPast, sensorOk, requestOk, scanOf}
 use Rattle.machine.specs.History.{run}
 use Rattle.verdict.specs.Judge.{hasVector, endless, fails, rejectionBy, rejection, verdictAt, judgeWords, judgeOf}
-use Rattle.verdict.specs.Start.{startOf}
+use Rattle.start.specs.Start.{startOf}
 use Rattle.promise.specs.Cases.{AllAnswered, starred, further, scanCases, findCases}
 
 pub starred-hold : AllAnswered starred

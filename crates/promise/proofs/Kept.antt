@@ -18,7 +18,7 @@ use Rattle.scan.specs.Walk.{passesDue}
 use Rattle.machine.specs.Told.{scanTold}
 use Rattle.machine.proofs.MachineLaws.{sends-due, scan-answers, scan-keeps-set}
 use Rattle.verdict.specs.Judge.{judgeOf}
-use Rattle.verdict.specs.Start.{startOf}
+use Rattle.start.specs.Start.{startOf}
 use Rattle.loader.specs.declared.loader.Loaded.{Loaded}
 use Rattle.header.specs.Bytes.{Bytes}
 use Rattle.loader.specs.Load.{loadOf}

@@ -21,7 +21,7 @@ use Rattle.machine.proofs.HistoryLaws.{all-right, list-state}
 use Rattle.verdict.specs.declared.verdict.Verdict.{Verdict}
 use Rattle.verdict.specs.declared.verdict.Verdict.the-variants.{Accepted, BadSet, ShortScratch, NoVector, NoEnd}
 use Rattle.verdict.specs.Judge.{judgeOf}
-use Rattle.verdict.specs.Start.{startState, startOf}
+use Rattle.start.specs.Start.{startState, startOf}
 use Rattle.verdict.specs.Told.{verdictTold}
 use Rattle.verdict.specs.Meaning.{Good, Means}
 use Rattle.verdict.proofs.JudgeLaws.{bad-set, short-scratch}

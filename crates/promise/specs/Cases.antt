@@ -16,7 +16,7 @@ use Rattle.machine.specs.History.{Call, run}
 use Rattle.machine.specs.Told.{scanTold}
 use Rattle.scan.specs.Samples.{name7, name07, name007, setP, P, now, nameA, setOf, product, clashing, endless, equalRanks, twoPairs, risingEdge, forcedOn, afterB, threePasses}
 use Rattle.verdict.specs.Judge.{judgeOf}
-use Rattle.verdict.specs.Start.{startOf}
+use Rattle.start.specs.Start.{startOf}
 use Rattle.verdict.specs.Told.{verdictTold}
 
 -- a case: what is done, and what is answered, by document 01's numbers

@@ -22,7 +22,7 @@ use Rattle.machine.specs.Told.{scanTold}
 use Rattle.shape.specs.Told.{findTold}
 use Rattle.machine.specs.History.{Call, Sends, run, runState, followed, stateAfter, AllRight}
 use Rattle.verdict.specs.Judge.{judgeOf, looseBytes}
-use Rattle.verdict.specs.Start.{startOf}
+use Rattle.start.specs.Start.{startOf}
 use Rattle.verdict.specs.Told.{verdictTold}
 use Rattle.verdict.specs.Meaning.{Good, FirstWithout, FirstEndless, Bad}
 use Rattle.header.specs.Bytes.{Bytes}

@@ -133,7 +133,7 @@ fn scan_set(set: Set, times: u32, scratch: &mut [u8]) -> u32 {
     io::read_full(0, &mut head);
     let len = two(head[0], head[1]) as usize * SCAN_BYTES;
     fill(&mut calls, len);
-    let started = verdict::start(set, scratch);
+    let started = start::start(set, scratch);
     let state = started.state;
     if len <= 4096 {
         return scan_often(state, times, &calls[0..len]);

@@ -4,10 +4,10 @@ use Prim.Native.Nat.{ℕ}
 use Rattle.scan.specs.declared.set.Set.{Set}
 use Rattle.scan.specs.declared.set.State.{State}
 use Rattle.scan.specs.Set.{freshState, zeroState}
 use Rattle.verdict.specs.declared.verdict.Verdict.{Verdict}
 use Rattle.verdict.specs.declared.verdict.Verdict.the-variants.{Accepted, BadSet, ShortScratch, NoVector, NoEnd}
-use Rattle.verdict.specs.declared.starting.Started.{Started}
+use Rattle.start.specs.declared.starting.Started.{Started}
 use Rattle.verdict.specs.Judge.{judgeOf}
 
 -- the state of the set with both pasts 0 if it is accepted, else the state with every field zero
 abbrev pub startState : Set → Verdict → State

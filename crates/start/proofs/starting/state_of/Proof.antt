@@ -1,17 +1,17 @@
--- `verdict::starting::state_of` meets its contract. Assumes nothing.
+-- `start::starting::state_of` meets its contract. Assumes nothing.
 use mathlib.Core.Path.{_≡_, refl, sym, ap, _∙_}
 use mathlib.Core.List.{[], _∷_}
 use denote.Enum.Declared.{tagOf}
 use types.Run.{OneOf, miss}
 use Rattle.scan.specs.declared.set.Set.{Set}
 use Rattle.scan.specs.Set.{freshState, zeroState}
 use Rattle.verdict.specs.declared.verdict.Verdict.{Verdict}
 use Rattle.verdict.proofs.verdict.Verdict.{the-type}
 use Rattle.verdict.specs.declared.verdict.Verdict.the-variants.{Accepted, BadSet, ShortScratch, NoVector, NoEnd}
-use Rattle.verdict.specs.Start.{startState}
+use Rattle.start.specs.Start.{startState}
 use borrow.Author.Needs.{needs}
-use Rattle.verdict.proofs.starting.state_of.Statement.{statement}
-use Rattle.verdict.proofs.starting.state_of.Tie as tie
+use Rattle.start.proofs.starting.state_of.Statement.{statement}
+use Rattle.start.proofs.starting.state_of.Tie as tie
 
 -- acceptance leads to a fresh state
 accepted : (s : Set) (v : Verdict) → v ≡ Accepted → freshState s ≡ startState s v

@@ -1,15 +1,15 @@
--- `verdict::starting::start` meets its contract. Assumes nothing.
+-- `start::starting::start` meets its contract. Assumes nothing.
 use mathlib.Core.Path.{_≡_, ap, _∙_}
 use Prim.Native.Nat.{ℕ}
 use Rattle.scan.specs.declared.set.Set.{Set}
 use Rattle.scan.specs.declared.set.State.{State}
 use Rattle.verdict.specs.declared.verdict.Verdict.{Verdict}
-use Rattle.verdict.specs.declared.starting.Started.{Started}
+use Rattle.start.specs.declared.starting.Started.{Started}
 use Rattle.verdict.specs.Judge.{judgeOf}
-use Rattle.verdict.specs.Start.{startState, startOf}
+use Rattle.start.specs.Start.{startState, startOf}
 use borrow.Author.Needs.{needs}
-use Rattle.verdict.proofs.starting.start.Statement.{statement}
-use Rattle.verdict.proofs.starting.start.Tie as tie
+use Rattle.start.proofs.starting.start.Statement.{statement}
+use Rattle.start.proofs.starting.start.Tie as tie
 
 started : (s : Set) (room : ℕ) (v : Verdict) (st : State) → v ≡ judgeOf s room → st ≡ startState s v → _≡_ {A = Started} (record { verdict = v; state = st }) (startOf s room)
 unfolding startOf

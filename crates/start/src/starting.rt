@@ -1,14 +1,14 @@
 // The start: the verdict, and a state of the set that it judged.
-use super::verdict::Verdict;
-use super::verdict::judge;
 use scan::Set;
 use scan::State;
 use scan::zero_set;
+use verdict::Verdict;
+use verdict::judge;
 ghost use mathlib.Core.Path.{_≡_};
 ghost use lib.ListN.{length, drop};
 ghost use Rattle.scan.specs.Set.{stateOf};
 ghost use Rattle.verdict.specs.Judge.{looseBytes};
-ghost use Rattle.verdict.specs.Start.{startState, startOf};
+ghost use Rattle.start.specs.Start.{startState, startOf};
 
 // The verdict, and the state: with every field zero where the set is rejected.
 pub struct Started {

@@ -1,0 +1,10 @@
+-- `start::starting::fresh` meets its contract. Assumes nothing.
+use mathlib.Core.Path.{refl}
+use Rattle.start.proofs.starting.fresh.Statement.{statement}
+use Rattle.start.proofs.starting.fresh.Tie as tie
+
+returns : tie.Need-returns
+returns c = refl
+
+pub fresh-spec : {M : Type 1} → statement M
+fresh-spec = tie.close (tie.spec returns)
