@@ -28,7 +28,8 @@ fn front<'a>(r: Reader<'a>, due: u8, m: usize) -> Header
     header_at(r.file, r.at, due, m)
 }
 
-fn place<'a>(r: Reader<'a>) -> usize
+// Where the reader stands.
+fn offset<'a>(r: Reader<'a>) -> usize
     ensures { λ n. ⌜ n ≡ r .entry .at ⌝ }
 {
     r.at
@@ -40,6 +41,6 @@ pub fn front_at(file: &[u8], at: usize, due: u8, m: usize) -> FrontField
 {
     let r = reader_at(file, at);
     let header = front(r, due, m);
-    let here = place(r);
+    let here = offset(r);
     FrontField { header, at: here }
 }

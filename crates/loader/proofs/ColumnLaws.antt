@@ -15,12 +15,12 @@ use Rattle.scan.specs.declared.set.Kind.{Kind}
 use Rattle.scan.specs.declared.set.Kind.the-variants.{Sensor, PastOutput, PastSensor}
 use Rattle.scan.specs.declared.set.Constraint.{Constraint}
 use Rattle.scan.specs.declared.set.Set.{Set}
-use Rattle.shape.specs.declared.names.NameRead.{NameRead}
+use Rattle.shape.specs.declared.names.Spelled.{Spelled}
 use Rattle.scan.specs.Set.{readPoint}
 use Rattle.scan.specs.Names.{allNameBytes, padded, isUsed}
-use Rattle.shape.specs.NameRead.{nameRead}
+use Rattle.shape.specs.Spelling.{spelling}
 use Rattle.scan.specs.Shape.{countTests, isSensor}
-use Rattle.shape.proofs.NameReadLaws.{spell-name, spell-strange}
+use Rattle.shape.proofs.SpellingLaws.{spell-name, spell-strange}
 use Rattle.header.specs.declared.header.Header.the-variants.{Refused as Stopped, Field}
 use Rattle.loader.specs.declared.point.KindRead.the-variants.{Bad, Known}
 use Rattle.loader.specs.declared.point.Point.the-variants.{Good}
@@ -34,8 +34,8 @@ use Rattle.loader.specs.declared.loader.Progress.the-variants.{At, Refus
 use Rattle.loader.specs.declared.loader.Loading.{Loading}
 use Rattle.header.specs.Header.{headerOf, bodyOf, bodyLength, isDue, fitsTable}
 use Rattle.literal.specs.Literal.{isOutput, number, place, isLiteral, withLiteral, refusedLiterals, literalThen, literalsFrom, literalsOf}
-use Rattle.loader.specs.Load.{refusal, goingOn, thenFrom, andThen, withCounts, countsGiven, countsAt, kindOf, deniedRead, readNamed, readTold, readField, readDone, readGiven, readAt, readsFrom, deniedOutput, outputNamed, outputField, outputDone, outputGiven, outputAt, outputsFrom, constraintDone, constraintAt, endAt, constraintsGiven, constraintsFrom, afterCounts, afterReads, answerOf, loadFrom, loadOf}
-use Rattle.loader.specs.Column.{Test, test, FirstFails, NoneFails, behindPlace, behind, headerTests, bodyAt, countsTests, kindFits, nameTests, readTests, outputTests, literalTests, namesOutput, constraintTests, endTests, readsTests, outputsTests, tagTests, constraintsTests, readsOn, outputsOn, loadTests}
+use Rattle.loader.specs.Load.{refusal, goingOn, thenFrom, andThen, ofCounts, countsGiven, countsAt, kindOf, deniedRead, readNamed, readTold, readField, readDone, readGiven, readAt, readsFrom, deniedOutput, outputNamed, outputField, outputDone, outputGiven, outputAt, outputsFrom, constraintDone, constraintAt, endAt, constraintsGiven, constraintsFrom, afterCounts, afterReads, answerOf, loadFrom, loadOf}
+use Rattle.loader.specs.Column.{Test, test, FirstFails, NoneFails, behindPlace, behind, headerTests, bodyAt, countsTests, kindFits, nameTests, readTests, outputTests, literalTests, namesOutput, bodyTests, endTests, readsTests, outputsTests, tagTests, constraintsTests, readsOn, outputsOn, loadTests}
 use Rattle.loader.specs.Told.{loadTold}
 use Rattle.header.proofs.HeaderLaws.{no-header, no-body, not-due, too-many, not-in-table, a-field, found, read-length, output-length}
 
@@ -129,8 +129,8 @@ counts-tell file =
     let last = test 5 0 (not (every (countTests r n 0))) ∷ [] in
     by-header file 0 0x01 0
     (λ c h x. tells-front (countsAt file) head last c 0 (ap (countsGiven file) h) x)
-    (λ h x. tells-behind (countsAt file) (cond (every (countTests r n 0)) (goingOn (3 + bodyLength file) (withCounts r n)) (refusal 5 0)) head last
-    (ap (countsGiven file) h) x (go (every (countTests r n 0)) (3 + bodyLength file) (withCounts r n)))
+    (λ h x. tells-behind (countsAt file) (cond (every (countTests r n 0)) (goingOn (3 + bodyLength file) (ofCounts r n)) (refusal 5 0)) head last
+    (ap (countsGiven file) h) x (go (every (countTests r n 0)) (3 + bodyLength file) (ofCounts r n)))
   where
     go : (b : Bool) (at : ℕ) (s : Set) → Tells (cond b (goingOn at s) (refusal 5 0)) (test 5 0 (not b) ∷ [])
     go true at s = (refl, tt)
@@ -140,9 +140,9 @@ counts-tell file =
 
 -- a name of 1 to 8 bytes, by its tests
 by-name : {C : Type 0} (at : ℕ) (s : Set) (i j : ℕ) (bytes : List ℕ) → 1 ≤ length bytes → length bytes ≤ 8
-    → ((got : NameRead) → nameRead bytes ≡ got → got .good ≡ false → FirstFails (nameTests at s i j bytes) 7 at → C)
-    → ((got : NameRead) → nameRead bytes ≡ got → got .good ≡ true → isUsed (s .reads) i (s .outputs) j (got .name) ≡ true → FirstFails (nameTests at s i j bytes) 8 at → C)
-    → ((got : NameRead) → nameRead bytes ≡ got → got .good ≡ true → isUsed (s .reads) i (s .outputs) j (got .name) ≡ false → NoneFails (nameTests at s i j bytes) → C)
+    → ((got : Spelled) → spelling bytes ≡ got → got .good ≡ false → FirstFails (nameTests at s i j bytes) 7 at → C)
+    → ((got : Spelled) → spelling bytes ≡ got → got .good ≡ true → isUsed (s .reads) i (s .outputs) j (got .name) ≡ true → FirstFails (nameTests at s i j bytes) 8 at → C)
+    → ((got : Spelled) → spelling bytes ≡ got → got .good ≡ true → isUsed (s .reads) i (s .outputs) j (got .name) ≡ false → NoneFails (nameTests at s i j bytes) → C)
     → C
 unfolding nameTests
 by-name at s i j bytes low high bad used good =
@@ -208,7 +208,7 @@ read-tells file at s i =
     (done (deniedRead 6) (ap (readTold body s i) (kind-bad s i kind index (not-true (kindFits s i kind index) f6)))) x (inl (f6, refl, refl)))
     (λ n6.
     let k = kind-known s i kind index (not-false (kindFits s i kind index) n6) in
-    let named : (got : NameRead) → nameRead bytes ≡ got → readField body s i ≡ readNamed s i (k .0) got =
+    let named : (got : Spelled) → spelling bytes ≡ got → readField body s i ≡ readNamed s i (k .0) got =
     λ got e. ap (readTold body s i) (k .1) ∙ ap (readNamed s i (k .0)) e in
     by-name at s i 0 bytes (omega arith) (omega arith)
     (λ got e g y. tells-behind (readAt file at s i) (refusal 7 at) head (six ∷ names) (done (deniedRead 7) (named got e ∙ rw g)) x (inr (n6, y)))
@@ -232,7 +232,7 @@ output-tells file at s j =
     λ f e. ap (outputGiven file at s j) h ∙ ap (λ (g : OutputField). outputDone at len s j (g .point) (g .output)) e in
     let long = body-length (drop at file) 3 0 (getD (drop at file) 0 0) len h in
     let bounds = output-length (drop at file) (getD (drop at file) 0 0) len h in
-    let named : (got : NameRead) → nameRead body ≡ got → outputField body s j ≡ outputNamed s j got = λ got e. ap (outputNamed s j) e in
+    let named : (got : Spelled) → spelling body ≡ got → outputField body s j ≡ outputNamed s j got = λ got e. ap (outputNamed s j) e in
     by-name at s (s .r) j body (omega arith) (omega arith)
     (λ got e g y. tells-behind (outputAt file at s j) (refusal 7 at) head names (done (deniedOutput 7) (named got e ∙ rw g)) x y)
     (λ got e g u y. tells-behind (outputAt file at s j) (refusal 8 at) head names (done (deniedOutput 8) (named got e ∙ rw (g, u))) x y)
@@ -298,8 +298,8 @@ literals-tell at r n next c (first ∷ rank ∷ rest) =
 
 -- ---- constraints and the end
 
-constraint-tells : (file : List ℕ) (at : ℕ) (s : Set) → Tells (constraintAt file at (bodyLength (drop at file)) s) (constraintTests file at s)
-unfolding constraintAt constraintTests
+constraint-tells : (file : List ℕ) (at : ℕ) (s : Set) → Tells (constraintAt file at (bodyLength (drop at file)) s) (bodyTests file at s)
+unfolding constraintAt bodyTests
 constraint-tells file at s = go (got .taken) (literals-tell at (s .r) (s .n) 0 _ body)
   where
     body : List ℕ
@@ -332,13 +332,13 @@ constraints-tell file (suc more) at s =
     by-header file at 0x04 (s .m)
     (λ c h x. tells-front (constraintsFrom file (suc more) at s) head rest c at (ap (constraintsGiven file at s next) h) x)
     (λ h x. tells-behind (constraintsFrom file (suc more) at s) (constraintsGiven file at s next (Field tag len)) head rest (ap (constraintsGiven file at s next) h) x
-    (by-tag (eqb tag 0x05) (then-tells (constraintAt file at len s) (constraintTests file at s) next (constraintsTests file more) (constraint-tells file at s)
+    (by-tag (eqb tag 0x05) (then-tells (constraintAt file at len s) (bodyTests file at s) next (constraintsTests file more) (constraint-tells file at s)
     (λ a t. constraints-tell file more a t))))
   where
     by-tag : (b : Bool) → Tells (andThen (constraintAt file at (bodyLength (drop at file)) s) (constraintsFrom file more))
-        (constraintTests file at s ++ behind (constraintAt file at (bodyLength (drop at file)) s) (constraintsTests file more))
+        (bodyTests file at s ++ behind (constraintAt file at (bodyLength (drop at file)) s) (constraintsTests file more))
         → Tells (cond b (endAt file at s) (andThen (constraintAt file at (bodyLength (drop at file)) s) (constraintsFrom file more)))
-        (cond b (endTests file at) (constraintTests file at s ++ behind (constraintAt file at (bodyLength (drop at file)) s) (constraintsTests file more)))
+        (cond b (endTests file at) (bodyTests file at s ++ behind (constraintAt file at (bodyLength (drop at file)) s) (constraintsTests file more)))
     by-tag true x = end-tells file at s
     by-tag false x = x
 

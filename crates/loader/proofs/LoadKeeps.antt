@@ -23,7 +23,7 @@ use Rattle.loader.specs.declared.loader.Progress.the-variants.{At, Refus
 use Rattle.loader.specs.declared.loader.Loading.{Loading}
 use Rattle.header.specs.Header.{headerOf, bodyOf}
 use Rattle.literal.specs.Literal.{literalsOf}
-use Rattle.loader.specs.Load.{countsAt, countsGiven, withCounts, refusal, goingOn, thenFrom, andThen, readAt, readGiven, readDone, readField, readsFrom, outputAt, outputGiven, outputDone, outputField, outputsFrom, constraintAt, constraintDone, constraintsFrom, constraintsGiven}
+use Rattle.loader.specs.Load.{countsAt, countsGiven, ofCounts, refusal, goingOn, thenFrom, andThen, readAt, readGiven, readDone, readField, readsFrom, outputAt, outputGiven, outputDone, outputField, outputsFrom, constraintAt, constraintDone, constraintsFrom, constraintsGiven}
 
 -- ---- one part of a load after another: l is what the first part x gave
 
@@ -186,7 +186,7 @@ module _ (s : List ℕ) where
 
   -- ---- the counts that were loaded are in range
 
-  counts-fit : (r n len : ℕ) (b : Bool) → every (countTests r n 0) ≡ b → (q : ℕ) → cond b (goingOn (3 + len) (withCounts r n)) (refusal 5 0) .progress ≡ At q → InRange (cond b (goingOn (3 + len) (withCounts r n)) (refusal 5 0) .set)
+  counts-fit : (r n len : ℕ) (b : Bool) → every (countTests r n 0) ≡ b → (q : ℕ) → cond b (goingOn (3 + len) (ofCounts r n)) (refusal 5 0) .progress ≡ At q → InRange (cond b (goingOn (3 + len) (ofCounts r n)) (refusal 5 0) .set)
   counts-fit r n len true f q e = let k = counts-told r n 0 f in (k .0, k .1, refl)
   counts-fit r n len false f q e = absurd (never 5 0 q e)
 

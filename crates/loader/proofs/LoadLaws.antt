@@ -14,9 +14,9 @@ use Rattle.words.specs.Loop.{every}
 use Rattle.scan.specs.declared.set.Kind.{Kind}
 use Rattle.scan.specs.declared.set.Kind.the-variants.{Sensor, PastOutput, PastSensor}
 use Rattle.scan.specs.declared.set.Set.{Set}
-use Rattle.shape.specs.declared.names.NameRead.{NameRead}
+use Rattle.shape.specs.declared.names.Spelled.{Spelled}
 use Rattle.scan.specs.Set.{readPoint}
-use Rattle.shape.specs.NameRead.{nameRead}
+use Rattle.shape.specs.Spelling.{spelling}
 use Rattle.scan.specs.Names.{isUsed}
 use Rattle.scan.specs.Shape.{countTests, isSensor}
 use Rattle.scan.proofs.ShapeLaws.{counts-rest}
@@ -32,7 +32,7 @@ use Rattle.loader.specs.declared.loader.Progress.{Progress}
 use Rattle.loader.specs.declared.loader.Loading.{Loading}
 use Rattle.header.specs.Header.{headerOf, bodyOf}
 use Rattle.literal.specs.Literal.{literalsOf}
-use Rattle.loader.specs.Load.{kindOf, kindIf, outputField, deniedOutput, outputNamed, readField, deniedRead, readTold, readNamed, countsAt, countsGiven, withCounts, refusal, goingOn, readAt, readGiven, readDone, outputAt, outputGiven, outputDone, constraintAt, constraintDone, answerOf, loadFrom, loadOf}
+use Rattle.loader.specs.Load.{kindOf, kindIf, outputField, deniedOutput, outputNamed, readField, deniedRead, readTold, readNamed, countsAt, countsGiven, ofCounts, refusal, goingOn, readAt, readGiven, readDone, outputAt, outputGiven, outputDone, constraintAt, constraintDone, answerOf, loadFrom, loadOf}
 
 -- ---- parts of a slice
 
@@ -75,7 +75,7 @@ module _ (s : List ℕ) where
     unfolding countsAt
     counts-bad f = ap (countsGiven s) h ∙ rw (first-count, second-count, f)
 
-    pub counts-good : every (countTests (getD s 3 0) (getD s 4 0) 0) ≡ true → countsAt s ≡ goingOn 5 (withCounts (getD s 3 0) (getD s 4 0))
+    pub counts-good : every (countTests (getD s 3 0) (getD s 4 0) 0) ≡ true → countsAt s ≡ goingOn 5 (ofCounts (getD s 3 0) (getD s 4 0))
     unfolding countsAt
     counts-good f = ap (countsGiven s) h ∙ rw (first-count, second-count, f)
 
@@ -130,7 +130,7 @@ module _ (body : List ℕ) (set : Set) (i : ℕ) where
   unfolding readField
   read-bad k = ap (readTold body set i) k
 
-  module _ (kind : Kind) (k : kindOf set i (getD body 0 0) (getD body 1 0) ≡ Known kind) (got : NameRead) (e : got ≡ nameRead (drop 2 body)) where
+  module _ (kind : Kind) (k : kindOf set i (getD body 0 0) (getD body 1 0) ≡ Known kind) (got : Spelled) (e : got ≡ spelling (drop 2 body)) where
     named : readField body set i ≡ readNamed set i kind got
     unfolding readField
     named = ap (readTold body set i) k ∙ ap (readNamed set i kind) (sym e)
@@ -160,7 +160,7 @@ module _ (s : List ℕ) (at : ℕ) (set : Set) (i : ℕ) where
 -- ---- an output
 
 -- its field, by what its name is
-module _ (body : List ℕ) (set : Set) (j : ℕ) (got : NameRead) (e : got ≡ nameRead body) where
+module _ (body : List ℕ) (set : Set) (j : ℕ) (got : Spelled) (e : got ≡ spelling body) where
   name-got : outputField body set j ≡ outputNamed set j got
   unfolding outputField
   name-got = ap (outputNamed set j) (sym e)

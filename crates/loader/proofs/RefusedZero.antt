@@ -27,7 +27,7 @@ use Rattle.loader.specs.declared.loader.Loading.{Loading}
 use Rattle.loader.specs.declared.loader.LoadAnswer.the-variants.{Loaded, Refused as WasRefused}
 use Rattle.header.specs.Header.{headerOf, bodyOf}
 use Rattle.literal.specs.Literal.{literalsOf}
-use Rattle.loader.specs.Load.{refusal, goingOn, thenFrom, andThen, withCounts, countsGiven, countsAt, readField, readDone, readGiven, readAt, readsFrom, outputField, outputDone, outputGiven, outputAt, outputsFrom, constraintDone, constraintAt, endAt, constraintsGiven, constraintsFrom, afterCounts, afterReads, answerOf, loadFrom, loadOf}
+use Rattle.loader.specs.Load.{refusal, goingOn, thenFrom, andThen, ofCounts, countsGiven, countsAt, readField, readDone, readGiven, readAt, readsFrom, outputField, outputDone, outputGiven, outputAt, outputsFrom, constraintDone, constraintAt, endAt, constraintsGiven, constraintsFrom, afterCounts, afterReads, answerOf, loadFrom, loadOf}
 
 -- a refusal has the zero set, and a set on its way has an output
 abbrev Shown : Progress → Set → Type 0
@@ -55,7 +55,7 @@ counts-show s (Stopped number) = refl
 counts-show s (Field tag len) =
     let r = getD (bodyOf s len) 0 0 in
     let n = getD (bodyOf s len) 1 0 in
-    cond-shows (every (countTests r n 0)) (goingOn (3 + len) (withCounts r n)) (refusal 5 0) (λ e. leb-true 1 n (every-at (countTests r n 0) e 1)) refl
+    cond-shows (every (countTests r n 0)) (goingOn (3 + len) (ofCounts r n)) (refusal 5 0) (λ e. leb-true 1 n (every-at (countTests r n 0) e 1)) refl
 
 -- by the header, and by what a body says
 

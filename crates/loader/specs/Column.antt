@@ -108,8 +108,8 @@ namesOutput (first ∷ []) = false
 namesOutput (first ∷ rank ∷ rest) = isOutput first || namesOutput rest
 
 -- 0x04: its literals, then 11 no output literal
-unfoldable pub constraintTests : List ℕ → ℕ → Set → List Test
-constraintTests file at set =
+unfoldable pub bodyTests : List ℕ → ℕ → Set → List Test
+bodyTests file at set =
     literalTests at (set .r) (set .n) 0 (bodyAt file at) ++ (test 11 at (not (namesOutput (bodyAt file at))) ∷ [])
 
 -- 0x05: 12 bytes follow, with the offset of the first
@@ -131,7 +131,7 @@ outputsTests file (suc left) j at set = outputTests file at set j ++ behind (out
 -- by the tag found: the end, or a constraint and what is behind it
 abbrev pub tagTests : List ℕ → ℕ → Set → (ℕ → Set → List Test) → ℕ → List Test
 tagTests file at set next tag =
-    let constraint = constraintTests file at set ++ behind (constraintAt file at (bodyLength (drop at file)) set) next in
+    let constraint = bodyTests file at set ++ behind (constraintAt file at (bodyLength (drop at file)) set) next in
     cond (eqb tag 0x05) (endTests file at) constraint
 
 -- constraints up to the end, at most `left` fields: 65 are enough, since a 65th constraint is refused

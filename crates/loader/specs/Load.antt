@@ -14,9 +14,9 @@ use Rattle.scan.specs.declared.set.ReadPoint.{ReadPoint}
 use Rattle.scan.specs.declared.set.OutputPoint.{OutputPoint}
 use Rattle.scan.specs.declared.set.Constraint.{Constraint}
 use Rattle.scan.specs.declared.set.Set.{Set}
-use Rattle.shape.specs.declared.names.NameRead.{NameRead}
-use Rattle.scan.specs.Set.{zeroRead, zeroOutput, zeroSet, readPoint}
-use Rattle.shape.specs.NameRead.{nameRead}
+use Rattle.shape.specs.declared.names.Spelled.{Spelled}
+use Rattle.scan.specs.Set.{zeroRead, zeroOutput, zeroSet, withCounts, withReads, withOutputs, withConstraints, readPoint}
+use Rattle.shape.specs.Spelling.{spelling}
 use Rattle.scan.specs.Names.{isUsed}
 use Rattle.scan.specs.Shape.{countTests, isSensor}
 use Rattle.header.specs.declared.header.Header.{Header}
@@ -61,16 +61,15 @@ andThen l next = thenFrom (l .progress) (l .set) next
 -- ---- 0x01: r and n
 
 -- a set of r read points and n outputs, with none of them loaded yet
-abbrev pub withCounts : ℕ → ℕ → Set
-withCounts r n =
-    record { r = r; n = n; m = 0; reads = zeroSet .reads; outputs = zeroSet .outputs; constraints = zeroSet .constraints }
+abbrev pub ofCounts : ℕ → ℕ → Set
+ofCounts r n = withCounts zeroSet r n 0
 
 -- 5, or the counts
 abbrev pub countsGiven : List ℕ → Header → Loading
 countsGiven s (Stopped number) = refusal number 0
 countsGiven s (Field tag len) =
     cond (every (countTests (getD (bodyOf s len) 0 0) (getD (bodyOf s len) 1 0) 0))
-    (goingOn (3 + len) (withCounts (getD (bodyOf s len) 0 0) (getD (bodyOf s len) 1 0)))
+    (goingOn (3 + len) (ofCounts (getD (bodyOf s len) 0 0) (getD (bodyOf s len) 1 0)))
     (refusal 5 0)
 
 -- the first field
@@ -97,7 +96,7 @@ abbrev pub deniedRead : ℕ → ReadField
 deniedRead number = record { point = Denied number; read = zeroRead }
 
 -- 7, then 8, or the read point
-abbrev pub readNamed : Set → ℕ → Kind → NameRead → ReadField
+abbrev pub readNamed : Set → ℕ → Kind → Spelled → ReadField
 readNamed set i kind got =
     cond (got .good)
     (cond (isUsed (set .reads) i (set .outputs) 0 (got .name))
@@ -108,7 +107,7 @@ readNamed set i kind got =
 -- 6, or what the name gives
 abbrev pub readTold : List ℕ → Set → ℕ → KindRead → ReadField
 readTold body set i Bad = deniedRead 6
-readTold body set i (Known kind) = readNamed set i kind (nameRead (drop 2 body))
+readTold body set i (Known kind) = readNamed set i kind (spelling (drop 2 body))
 
 -- the read point of a body
 unfoldable pub readField : List ℕ → Set → ℕ → ReadField
@@ -116,8 +115,7 @@ readField body set i = readTold body set i (kindOf set i (getD body 0 0) (getD b
 
 -- the set with read point i
 abbrev pub withRead : Set → ℕ → ReadPoint → Set
-withRead set i p =
-    record { r = set .r; n = set .n; m = set .m; reads = store (set .reads) i p; outputs = set .outputs; constraints = set .constraints }
+withRead set i p = withReads set (store (set .reads) i p)
 
 -- the refusal, or the set with the read point
 abbrev pub readDone : ℕ → ℕ → Set → ℕ → Point → ReadPoint → Loading
@@ -146,7 +144,7 @@ abbrev pub deniedOutput : ℕ → OutputField
 deniedOutput number = record { point = Denied number; output = zeroOutput }
 
 -- 7, then 8, or the output
-abbrev pub outputNamed : Set → ℕ → NameRead → OutputField
+abbrev pub outputNamed : Set → ℕ → Spelled → OutputField
 outputNamed set j got =
     cond (got .good)
     (cond (isUsed (set .reads) (set .r) (set .outputs) j (got .name)) (deniedOutput 8) (record { point = Good; output = record { name = got .name } }))
@@ -154,12 +152,11 @@ outputNamed set j got =
 
 -- the output of a body
 unfoldable pub outputField : List ℕ → Set → ℕ → OutputField
-outputField body set j = outputNamed set j (nameRead body)
+outputField body set j = outputNamed set j (spelling body)
 
 -- the set with output j
 abbrev pub withOutput : Set → ℕ → OutputPoint → Set
-withOutput set j p =
-    record { r = set .r; n = set .n; m = set .m; reads = set .reads; outputs = store (set .outputs) j p; constraints = set .constraints }
+withOutput set j p = withOutputs set (store (set .outputs) j p)
 
 -- the refusal, or the set with the output
 abbrev pub outputDone : ℕ → ℕ → Set → ℕ → Point → OutputPoint → Loading
@@ -185,8 +182,7 @@ outputsFrom s (suc left) j at set = andThen (outputAt s at set j) (outputsFrom s
 
 -- the set with a constraint more
 abbrev pub withConstraint : Set → Constraint → Set
-withConstraint set c =
-    record { r = set .r; n = set .n; m = set .m + 1; reads = set .reads; outputs = set .outputs; constraints = store (set .constraints) (set .m) c }
+withConstraint set c = withCounts (withConstraints set (store (set .constraints) (set .m) c)) (set .r) (set .n) (set .m + 1)
 
 -- the refusal, or the set with the constraint
 abbrev pub constraintDone : ℕ → ℕ → Set → Taken → Constraint → Loading

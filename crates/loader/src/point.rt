@@ -7,7 +7,7 @@ use scan::OutputPoint;
 use scan::ReadPoint;
 use scan::Set;
 use shape::is_used;
-use shape::read_name;
+use shape::spell;
 ghost use mathlib.Core.Path.{_≡_};
 ghost use Prim.Native.Nat.{_≤_};
 ghost use lib.ListN.{length};
@@ -91,7 +91,7 @@ pub fn read_field(body: &[u8], set: Set, i: usize) -> ReadField
     match told {
         KindRead::Bad => denied_read(BAD_KIND),
         KindRead::Known(kind) => {
-            let got = read_name(&body[2..]);
+            let got = spell(&body[2..]);
             if !got.good {
                 return denied_read(BAD_NAME_BYTE);
             }
@@ -124,7 +124,7 @@ pub fn output_field(body: &[u8], set: Set, j: usize) -> OutputField
     requires { ⌜ (length (now body) ≤ 8) × (set .r ≤ 16) × (j ≤ 12) ⌝ }
     ensures { λ r. ⌜ r ≡ outputField (now (body .entry)) set j ⌝ }
 {
-    let got = read_name(body);
+    let got = spell(body);
     if !got.good {
         return denied_output(BAD_NAME_BYTE);
     }

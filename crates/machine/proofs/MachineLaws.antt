@@ -97,43 +97,43 @@ module _ (s : Set) (ok : wellFormed s ≡ true) (w request : ℕ) (fits : reques
 
 -- ---- a scan, by its tests
 
-module _ (st : State) (now request : ℕ) where
-  pub scan-bad-state : stateOk st ≡ false → scanOf st now request ≡ refused st BadState
+module _ (st : State) (present request : ℕ) where
+  pub scan-bad-state : stateOk st ≡ false → scanOf st present request ≡ refused st BadState
   unfolding scanOf
   scan-bad-state p = rw p
 
-  pub scan-bad-sensor : stateOk st ≡ true → sensorOk (st .set) now ≡ false → scanOf st now request ≡ refused st BadSensor
+  pub scan-bad-sensor : stateOk st ≡ true → sensorOk (st .set) present ≡ false → scanOf st present request ≡ refused st BadSensor
   unfolding scanOf
   scan-bad-sensor p q = rw (p, q)
 
-  pub scan-bad-request : stateOk st ≡ true → sensorOk (st .set) now ≡ true → requestOk (st .set) request ≡ false → scanOf st now request ≡ refused st BadRequest
+  pub scan-bad-request : stateOk st ≡ true → sensorOk (st .set) present ≡ true → requestOk (st .set) request ≡ false → scanOf st present request ≡ refused st BadRequest
   unfolding scanOf
   scan-bad-request p q r = rw (p, q, r)
 
   -- the read word of the scan
   abbrev pub scanWord : ℕ
-  scanWord = readWord (st .set) (st .«past_output») (st .«past_sensor») now
+  scanWord = readWord (st .set) (st .«past_output») (st .«past_sensor») present
 
-  pub scan-walks : stateOk st ≡ true → sensorOk (st .set) now ≡ true → requestOk (st .set) request ≡ true
-      → scanOf st now request ≡ sending st now (walk (st .set) scanWord request)
+  pub scan-walks : stateOk st ≡ true → sensorOk (st .set) present ≡ true → requestOk (st .set) request ≡ true
+      → scanOf st present request ≡ sending st present (walk (st .set) scanWord request)
   unfolding scanOf
   scan-walks p q r = rw (p, q, r)
 
   -- ---- the set, and a refused scan's state, stay as they are
 
-  sending-keeps : (x : Walk) → sending st now x .state .set ≡ st .set
+  sending-keeps : (x : Walk) → sending st present x .state .set ≡ st .set
   sending-keeps (Safe v made) = refl
   sending-keeps Never = refl
 
-  sending-kept : (x : Walk) → ((v k : ℕ) → sending st now x .answer ≢ Sent v k) → sending st now x .state ≡ st
+  sending-kept : (x : Walk) → ((v k : ℕ) → sending st present x .answer ≢ Sent v k) → sending st present x .state ≡ st
   sending-kept (Safe v made) n = absurd (n _ _ refl)
   sending-kept Never n = refl
 
   -- what holds of every refusal and of every walk's end holds of the scan
-  by-scan {ℓ} : (P : Scanned → Type ℓ) → ((a : ScanAnswer) → P (refused st a)) → ((x : Walk) → P (sending st now x)) → P (scanOf st now request)
+  by-scan {ℓ} : (P : Scanned → Type ℓ) → ((a : ScanAnswer) → P (refused st a)) → ((x : Walk) → P (sending st present x)) → P (scanOf st present request)
   by-scan P stays goes =
       by-test (stateOk st)
-      (λ p. by-test (sensorOk (st .set) now)
+      (λ p. by-test (sensorOk (st .set) present)
       (λ q. by-test (requestOk (st .set) request)
       (λ r. subst P (sym (scan-walks p q r)) (goes (walk (st .set) scanWord request)))
       (λ r. subst P (sym (scan-bad-request p q r)) (stays BadRequest)))
@@ -141,46 +141,46 @@ module _ (st : State) (now request : ℕ) where
       (λ p. subst P (sym (scan-bad-state p)) (stays BadState))
 
   -- no scan changes the set
-  pub scan-keeps-set : scanOf st now request .state .set ≡ st .set
+  pub scan-keeps-set : scanOf st present request .state .set ≡ st .set
   scan-keeps-set = by-scan (λ (x : Scanned). x .state .set ≡ st .set) (λ a. refl) sending-keeps
 
   -- a refused scan gives the state as it was
-  pub refused-keeps-state : ((v k : ℕ) → scanOf st now request .answer ≢ Sent v k) → scanOf st now request .state ≡ st
+  pub refused-keeps-state : ((v k : ℕ) → scanOf st present request .answer ≢ Sent v k) → scanOf st present request .state ≡ st
   refused-keeps-state =
       by-scan (λ (x : Scanned). ((v k : ℕ) → x .answer ≢ Sent v k) → x .state ≡ st) (λ a m. refl) sending-kept
 
   -- ---- words that pass 30 to 32
 
-  module _ (p : stateOk st ≡ true) (q : sensorOk (st .set) now ≡ true) (r : requestOk (st .set) request ≡ true) where
+  module _ (p : stateOk st ≡ true) (q : sensorOk (st .set) present ≡ true) (r : requestOk (st .set) request ≡ true) where
     -- the vector due and the passes due, and they are put into the state
     abbrev pub sentDue : Scanned
     sentDue = record {
       answer = Sent (vectorDue (st .set) scanWord request) (passesDue (st .set) scanWord request);
-      state = stateOf (st .set) (vectorDue (st .set) scanWord request) now;
+      state = stateOf (st .set) (vectorDue (st .set) scanWord request) present;
     }
 
     due : Reaches (st .set) scanWord request → Due (st .set) (state-formed st p) scanWord request (request-lt (st .set) request r)
     due = walk-due (st .set) (state-formed st p) scanWord request (request-lt (st .set) request r)
 
-    pub scan-sends : Reaches (st .set) scanWord request → scanOf st now request ≡ sentDue
-    scan-sends e = scan-walks p q r ∙ ap (sending st now) (due e .walked)
+    pub scan-sends : Reaches (st .set) scanWord request → scanOf st present request ≡ sentDue
+    scan-sends e = scan-walks p q r ∙ ap (sending st present) (due e .walked)
 
-    pub scan-unsafe : ¬ Reaches (st .set) scanWord request → scanOf st now request ≡ refused st Unsafe
-    scan-unsafe n = scan-walks p q r ∙ ap (sending st now) (walk-endless (st .set) (state-formed st p) scanWord request (request-lt (st .set) request r) n)
+    pub scan-unsafe : ¬ Reaches (st .set) scanWord request → scanOf st present request ≡ refused st Unsafe
+    scan-unsafe n = scan-walks p q r ∙ ap (sending st present) (walk-endless (st .set) (state-formed st p) scanWord request (request-lt (st .set) request r) n)
 
     -- the answer is the walk's first safe vector with its passes, or 33 where the walk never is safe
-    pub scan-answers : (FirstSafe (st .set) scanWord request (passesDue (st .set) scanWord request) × (scanOf st now request ≡ sentDue))
-        ⊎ ((¬ Reaches (st .set) scanWord request) × (scanOf st now request ≡ refused st Unsafe))
+    pub scan-answers : (FirstSafe (st .set) scanWord request (passesDue (st .set) scanWord request) × (scanOf st present request ≡ sentDue))
+        ⊎ ((¬ Reaches (st .set) scanWord request) × (scanOf st present request ≡ refused st Unsafe))
     scan-answers = go (reaches-or-never (st .set) (state-formed st p) scanWord request (request-lt (st .set) request r))
       where
         go : Dec (Reaches (st .set) scanWord request)
-            → (FirstSafe (st .set) scanWord request (passesDue (st .set) scanWord request) × (scanOf st now request ≡ sentDue))
-            ⊎ ((¬ Reaches (st .set) scanWord request) × (scanOf st now request ≡ refused st Unsafe))
+            → (FirstSafe (st .set) scanWord request (passesDue (st .set) scanWord request) × (scanOf st present request ≡ sentDue))
+            ⊎ ((¬ Reaches (st .set) scanWord request) × (scanOf st present request ≡ refused st Unsafe))
         go (yes e) = inl (due e .first-safe, scan-sends e)
         go (no n) = inr (n, scan-unsafe n)
 
     -- the request is sent untouched exactly when it makes no constraint true
-    pub scan-untouched : ((k : ℕ) × (scanOf st now request .answer ≡ Sent request k)) ↔ (safe (st .set) scanWord request ≡ true)
+    pub scan-untouched : ((k : ℕ) × (scanOf st present request .answer ≡ Sent request k)) ↔ (safe (st .set) scanWord request ≡ true)
     scan-untouched = (λ x. there (x .0) (x .1) (reaches-or-never (st .set) ok scanWord request fits), back)
       where
         ok : wellFormed (st .set) ≡ true
@@ -195,13 +195,13 @@ module _ (st : State) (now request : ℕ) where
         never : (a : ScanAnswer) (v k : ℕ) → a ≡ Sent v k → a ≡ Unsafe → ⊥
         never a v k e f = let z : _≡_ {A = ℕ} 0 1 = cc in omega arith
 
-        there : (k : ℕ) → scanOf st now request .answer ≡ Sent request k → Dec (Reaches (st .set) scanWord request) → safe (st .set) scanWord request ≡ true
+        there : (k : ℕ) → scanOf st present request .answer ≡ Sent request k → Dec (Reaches (st .set) scanWord request) → safe (st .set) scanWord request ≡ true
         there k e (yes t) =
             due-untouched (st .set) ok scanWord request fits t .0
-            (vector-of (scanOf st now request .answer) request k _ _ e (ap (λ (x : Scanned). x .answer) (scan-sends t)))
-        there k e (no n) = absurd (never (scanOf st now request .answer) request k e (ap (λ (x : Scanned). x .answer) (scan-unsafe n)))
+            (vector-of (scanOf st present request .answer) request k _ _ e (ap (λ (x : Scanned). x .answer) (scan-sends t)))
+        there k e (no n) = absurd (never (scanOf st present request .answer) request k e (ap (λ (x : Scanned). x .answer) (scan-unsafe n)))
 
-        back : safe (st .set) scanWord request ≡ true → (k : ℕ) × (scanOf st now request .answer ≡ Sent request k)
+        back : safe (st .set) scanWord request ≡ true → (k : ℕ) × (scanOf st present request .answer ≡ Sent request k)
         back e =
             let t = safe-start-reaches (st .set) ok scanWord request fits e in (
               passesDue (st .set) scanWord request,

@@ -28,14 +28,14 @@ module _ (s t : Set) (a : AlikeButLone s t) (w : ℕ) where
   walk-alike g = λ i.
       walkBy (fun-ext (safe-alike s t a w) i) (fun-ext (pass-alike s t a w) i) (2 ^ popcount (unheld-alike s t a w i) - 1) (startFrom (F0-alike s t a w i) (F1-alike s t a w i) g) 0
 
-module _ (s t : Set) (a : AlikeButLone s t) (formed : wellFormed s ≡ wellFormed t) (output sensor now request : ℕ) where
-  read-alike : readWord s output sensor now ≡ readWord t output sensor now
+module _ (s t : Set) (a : AlikeButLone s t) (formed : wellFormed s ≡ wellFormed t) (output sensor present request : ℕ) where
+  read-alike : readWord s output sensor present ≡ readWord t output sensor present
   unfolding readWord readingAt
-  read-alike = λ i. word (a .r-same i) (fun-ext (λ k. ap (reading output sensor now k) (a .kinds k)) i)
+  read-alike = λ i. word (a .r-same i) (fun-ext (λ k. ap (reading output sensor present k) (a .kinds k)) i)
 
-  sensor-alike : sensorOk s now ≡ sensorOk t now
+  sensor-alike : sensorOk s present ≡ sensorOk t present
   unfolding sensorOk isPast
-  sensor-alike = λ i. lib.Dec.ltb now (2 ^ a .r-same i) && lib.Dec.eqb (bitAnd now (word (a .r-same i) (fun-ext (λ k. ap (λ (x : Kind). not (isSensor x)) (a .kinds k)) i))) 0
+  sensor-alike = λ i. lib.Dec.ltb present (2 ^ a .r-same i) && lib.Dec.eqb (bitAnd present (word (a .r-same i) (fun-ext (λ k. ap (λ (x : Kind). not (isSensor x)) (a .kinds k)) i))) 0
 
   walked : Walk → ScanAnswer
   walked (Safe v made) = Sent v made
@@ -45,15 +45,15 @@ module _ (s t : Set) (a : AlikeButLone s t) (formed : wellFormed s ≡ wellForme
   answerBy : Bool → Bool → Bool → Walk → ScanAnswer
   answerBy p q r x = cond (not p) BadState (cond (not q) BadSensor (cond (not r) BadRequest (walked x)))
 
-  by-tests : (u : Set) → scanOf (stateOf u output sensor) now request .answer
-      ≡ answerBy (stateOk (stateOf u output sensor)) (sensorOk u now) (requestOk u request) (walk u (readWord u output sensor now) request)
+  by-tests : (u : Set) → scanOf (stateOf u output sensor) present request .answer
+      ≡ answerBy (stateOk (stateOf u output sensor)) (sensorOk u present) (requestOk u request) (walk u (readWord u output sensor present) request)
   unfolding scanOf answerBy walked
-  by-tests u = go (stateOk (stateOf u output sensor)) (sensorOk u now) (requestOk u request) (walk u (readWord u output sensor now) request)
+  by-tests u = go (stateOk (stateOf u output sensor)) (sensorOk u present) (requestOk u request) (walk u (readWord u output sensor present) request)
     where
       go : (p q r : Bool) (x : Walk)
           → cond (not p) (refused (stateOf u output sensor) BadState)
           (cond (not q) (refused (stateOf u output sensor) BadSensor)
-          (cond (not r) (refused (stateOf u output sensor) BadRequest) (sending (stateOf u output sensor) now x))) .answer ≡ answerBy p q r x
+          (cond (not r) (refused (stateOf u output sensor) BadRequest) (sending (stateOf u output sensor) present x))) .answer ≡ answerBy p q r x
       go true true true (Safe v made) = refl
       go true true true Never = refl
       go true true false x = refl
@@ -61,10 +61,10 @@ module _ (s t : Set) (a : AlikeButLone s t) (formed : wellFormed s ≡ wellForme
       go false q r x = refl
 
   -- a lone output's rank changes no answer
-  pub scan-alike : scanOf (stateOf s output sensor) now request .answer ≡ scanOf (stateOf t output sensor) now request .answer
+  pub scan-alike : scanOf (stateOf s output sensor) present request .answer ≡ scanOf (stateOf t output sensor) present request .answer
   unfolding stateOk requestOk
   scan-alike =
       by-tests s
       ∙ (λ i. answerBy (formed i && (lib.Dec.ltb output (2 ^ a .n-same i) && (lib.Dec.ltb sensor (2 ^ a .r-same i) && true))) (sensor-alike i)
-      (lib.Dec.ltb request (2 ^ a .n-same i)) ((walk-alike s t a (readWord s output sensor now) request ∙ ap (λ (w : ℕ). walk t w request) read-alike) i))
+      (lib.Dec.ltb request (2 ^ a .n-same i)) ((walk-alike s t a (readWord s output sensor present) request ∙ ap (λ (w : ℕ). walk t w request) read-alike) i))
       ∙ sym (by-tests t)

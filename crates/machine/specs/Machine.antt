@@ -28,7 +28,7 @@ isPast s k = not (isSensor (kind s k))
 
 -- not 31: the sensor word has r bits, and none at a past point
 unfoldable pub sensorOk : Set → ℕ → Bool
-sensorOk s now = ltb now (2 ^ s .r) && eqb (bitAnd now (word (s .r) (isPast s))) 0
+sensorOk s present = ltb present (2 ^ s .r) && eqb (bitAnd present (word (s .r) (isPast s))) 0
 
 -- not 32: the request has n bits
 unfoldable pub requestOk : Set → ℕ → Bool
@@ -40,14 +40,14 @@ refused st a = record { answer = a; state = st }
 
 -- the vector and the passes, with the next state; or 33
 abbrev pub sending : State → ℕ → Walk → Scanned
-sending st now (Safe v made) = record { answer = Sent v made; state = stateOf (st .set) v now }
-sending st now Never = refused st Unsafe
+sending st present (Safe v made) = record { answer = Sent v made; state = stateOf (st .set) v present }
+sending st present Never = refused st Unsafe
 
 -- a scan of a state, with a sensor word and a request
 unfoldable pub scanOf : State → ℕ → ℕ → Scanned
-scanOf st now request =
+scanOf st present request =
     let s = st .set in
-    let go = sending st now (walk s (readWord s (st .«past_output») (st .«past_sensor») now) request) in
+    let go = sending st present (walk s (readWord s (st .«past_output») (st .«past_sensor») present) request) in
     cond (not (stateOk st)) (refused st BadState)
-    (cond (not (sensorOk s now)) (refused st BadSensor)
+    (cond (not (sensorOk s present)) (refused st BadSensor)
     (cond (not (requestOk s request)) (refused st BadRequest) go))

@@ -11,14 +11,14 @@ use Rattle.scan.specs.Set.{kind}
 
 -- what a read point of this kind, at bit k, reads: the sensor word, or the bit of a past that its index names
 abbrev pub reading : ℕ → ℕ → ℕ → ℕ → Kind → Bool
-reading output sensor now k Sensor = bit k now
-reading output sensor now k (PastOutput i) = bit i output
-reading output sensor now k (PastSensor i) = bit i sensor
+reading output sensor present k Sensor = bit k present
+reading output sensor present k (PastOutput i) = bit i output
+reading output sensor present k (PastSensor i) = bit i sensor
 
 -- read point k of the set
 unfoldable pub readingAt : Set → ℕ → ℕ → ℕ → ℕ → Bool
-readingAt s output sensor now k = reading output sensor now k (kind s k)
+readingAt s output sensor present k = reading output sensor present k (kind s k)
 
--- the sensor word `now`, with past points filled from the past output word and the past sensor word
+-- the sensor word `present`, with past points filled from the past output word and the past sensor word
 unfoldable pub readWord : Set → ℕ → ℕ → ℕ → ℕ
-readWord s output sensor now = word (s .r) (readingAt s output sensor now)
+readWord s output sensor present = word (s .r) (readingAt s output sensor present)

@@ -51,12 +51,12 @@ fn past_points(s: Set) -> u32
 }
 
 // Whether the word has bits only at sensors.
-fn is_sensor_word(s: Set, now: u32) -> bool
+fn is_sensor_word(s: Set, present: u32) -> bool
     requires { ⌜ s .r ≤ 16 ⌝ }
-    ensures { λ r. ⌜ r ≡ sensorOk s now ⌝ }
+    ensures { λ r. ⌜ r ≡ sensorOk s present ⌝ }
 {
     let r = s.r;
-    both(words::fits32(now, r), now & past_points(s) == 0)
+    both(words::fits32(present, r), present & past_points(s) == 0)
 }
 
 // Whether the set is well formed and the pasts have its widths.

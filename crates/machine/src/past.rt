@@ -7,19 +7,19 @@ ghost use Prim.Native.Nat.{_≤_};
 ghost use Rattle.machine.specs.Past.{reading, readWord};
 
 // What a read point of this kind, at bit k, reads.
-fn reading_of(output: u16, sensor: u32, now: u32, k: usize, kind: Kind) -> bool
-    ensures { λ r. ⌜ r ≡ reading output sensor now k kind ⌝ }
+fn reading_of(output: u16, sensor: u32, present: u32, k: usize, kind: Kind) -> bool
+    ensures { λ r. ⌜ r ≡ reading output sensor present k kind ⌝ }
 {
     match kind {
-        Kind::Sensor => words::bit32(k, now),
+        Kind::Sensor => words::bit32(k, present),
         Kind::PastOutput(i) => words::bit16(i as usize, output),
         Kind::PastSensor(i) => words::bit32(i as usize, sensor),
     }
 }
 
-pub fn read_word(s: Set, output: u16, sensor: u32, now: u32) -> u32
+pub fn read_word(s: Set, output: u16, sensor: u32, present: u32) -> u32
     requires { ⌜ s .r ≤ 16 ⌝ }
-    ensures { λ r. ⌜ r ≡ readWord s output sensor now ⌝ }
+    ensures { λ r. ⌜ r ≡ readWord s output sensor present ⌝ }
 {
     let r = s.r;
     let mut w: u32 = 0;
@@ -27,7 +27,7 @@ pub fn read_word(s: Set, output: u16, sensor: u32, now: u32) -> u32
     while k < r {
         let p = s.reads[k];
         let kind = p.kind;
-        w = w | keep32(reading_of(output, sensor, now, k, kind), 1u32 << k);
+        w = w | keep32(reading_of(output, sensor, present, k, kind), 1u32 << k);
         k = k + 1;
     }
     w

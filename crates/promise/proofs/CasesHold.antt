@@ -3,7 +3,7 @@
 use mathlib.Core.Path.{refl}
 use lib.Count.{onesIn}
 use Rattle.words.specs.Word.{odd, bit, without, meets, popcount}
-use Rattle.words.specs.Loop.{gather, place, word, some, all, firstFrom, first}
+use Rattle.words.specs.Loop.{gather, bitIf, word, some, all, firstFrom, first}
 use Rattle.scan.specs.Set.{zeroSet, constraint, kind}
 use Rattle.scan.specs.Names.{nameByte, allNameBytes, nameLength, placeOk, nameOk, nameZero, sameName, readNamed, firstRead, outputNamed, firstOutput}
 use Rattle.scan.specs.Shape.{countTests, lengthTests, kindOk, readOk, readZero, readPlace, outputOk, outputPlace, rankOk, constraintTests, constraintZero, constraintPlace, setTests, wellFormed}
@@ -20,15 +20,15 @@ use Rattle.start.specs.Start.{startOf}
 use Rattle.promise.specs.Cases.{AllAnswered, starred, further, scanCases, findCases}
 
 pub starred-hold : AllAnswered starred
-unfolding onesIn odd bit without meets popcount gather place word some all firstFrom first zeroSet constraint kind nameByte nameLength placeOk nameOk nameZero sameName readNamed firstRead outputNamed firstOutput countTests lengthTests kindOk readOk readZero readPlace outputOk outputPlace rankOk constraintTests constraintZero constraintPlace setTests wellFormed readsTrue outsTrue isTrue simple combined trueAt safe holding toZero toOne F0 F1 unheldBy unheld unheldCount startFrom startVector lowest hasRank yielding yields fires flips pass walkBy walk readingAt readWord stateOk isPast sensorOk requestOk scanOf run hasVector endless fails rejectionBy rejection verdictAt judgeWords judgeOf startOf
+unfolding onesIn odd bit without meets popcount gather bitIf word some all firstFrom first zeroSet constraint kind nameByte nameLength placeOk nameOk nameZero sameName readNamed firstRead outputNamed firstOutput countTests lengthTests kindOk readOk readZero readPlace outputOk outputPlace rankOk constraintTests constraintZero constraintPlace setTests wellFormed readsTrue outsTrue isTrue simple combined trueAt safe holding toZero toOne F0 F1 unheldBy unheld unheldCount startFrom startVector lowest hasRank yielding yields fires flips pass walkBy walk readingAt readWord stateOk isPast sensorOk requestOk scanOf run hasVector endless fails rejectionBy rejection verdictAt judgeWords judgeOf startOf
 starred-hold = refl
 
 pub further-hold : AllAnswered further
-unfolding onesIn odd bit without meets popcount gather place word some all firstFrom first zeroSet constraint kind nameByte nameLength placeOk nameOk nameZero sameName readNamed firstRead outputNamed firstOutput countTests lengthTests kindOk readOk readZero readPlace outputOk outputPlace rankOk constraintTests constraintZero constraintPlace setTests wellFormed readsTrue outsTrue isTrue simple combined trueAt safe holding toZero toOne F0 F1 unheldBy unheld unheldCount startFrom startVector lowest hasRank yielding yields fires flips pass walkBy walk readingAt readWord stateOk isPast sensorOk requestOk scanOf run hasVector endless fails rejectionBy rejection verdictAt judgeWords judgeOf startOf
+unfolding onesIn odd bit without meets popcount gather bitIf word some all firstFrom first zeroSet constraint kind nameByte nameLength placeOk nameOk nameZero sameName readNamed firstRead outputNamed firstOutput countTests lengthTests kindOk readOk readZero readPlace outputOk outputPlace rankOk constraintTests constraintZero constraintPlace setTests wellFormed readsTrue outsTrue isTrue simple combined trueAt safe holding toZero toOne F0 F1 unheldBy unheld unheldCount startFrom startVector lowest hasRank yielding yields fires flips pass walkBy walk readingAt readWord stateOk isPast sensorOk requestOk scanOf run hasVector endless fails rejectionBy rejection verdictAt judgeWords judgeOf startOf
 further-hold = refl
 
 pub scans-worked : AllAnswered scanCases
-unfolding onesIn odd bit without meets popcount gather place word some all firstFrom first zeroSet constraint kind nameByte allNameBytes nameLength placeOk nameOk nameZero sameName readNamed firstRead outputNamed firstOutput countTests lengthTests kindOk readOk readZero readPlace outputOk outputPlace rankOk constraintTests constraintZero constraintPlace setTests wellFormed readsTrue outsTrue isTrue simple combined trueAt safe holding toZero toOne F0 F1 unheldBy unheld unheldCount startFrom startVector lowest hasRank yielding yields fires flips pass walkBy walk readingAt readWord stateOk isPast sensorOk requestOk scanOf run
+unfolding onesIn odd bit without meets popcount gather bitIf word some all firstFrom first zeroSet constraint kind nameByte allNameBytes nameLength placeOk nameOk nameZero sameName readNamed firstRead outputNamed firstOutput countTests lengthTests kindOk readOk readZero readPlace outputOk outputPlace rankOk constraintTests constraintZero constraintPlace setTests wellFormed readsTrue outsTrue isTrue simple combined trueAt safe holding toZero toOne F0 F1 unheldBy unheld unheldCount startFrom startVector lowest hasRank yielding yields fires flips pass walkBy walk readingAt readWord stateOk isPast sensorOk requestOk scanOf run
 scans-worked = refl
 
 pub finds-worked : AllAnswered findCases

@@ -64,16 +64,16 @@ demand-1 = record {
 
 -- ---- demand 2
 
-answers : (st : State) (now request : ℕ) → StateAllowed st → SensorAllowed (st .set) now → RequestAllowed (st .set) request → Answers st now request
-answers st now request a b c =
+answers : (st : State) (present request : ℕ) → StateAllowed st → SensorAllowed (st .set) present → RequestAllowed (st .set) request → Answers st present request
+answers st present request a b c =
     ⊎-elim
     (λ x. inl (
-      sends-due (st .set) (a .0) (wordOf st now) request c (passesDue (st .set) (wordOf st now) request, x .0 .here) (scanOf st now request .answer)
+      sends-due (st .set) (a .0) (wordOf st present) request c (passesDue (st .set) (wordOf st present) request, x .0 .here) (scanOf st present request .answer)
           (ap (λ (y : Scanned). scanTold (y .answer)) (x .1)),
       ap (λ (y : Scanned). y .state) (x .1),
     ))
     (λ x. inr (x .0, ap (λ (y : Scanned). scanTold (y .answer)) (x .1)))
-    (scan-answers st now request (state-iff st .1 a) (sensor-iff (st .set) now .1 b) (request-iff (st .set) request .1 c))
+    (scan-answers st present request (state-iff st .1 a) (sensor-iff (st .set) present .1 b) (request-iff (st .set) request .1 c))
 
 loads-back : (s : Set) (buf : List ℕ) (size : ℕ) → writeTold (writeAnswer s (length buf)) ≡ 0 ∷ size ∷ []
     → (loadTold (loadOf (take size (bufferAfter s buf)) .answer) ≡ 0 ∷ []) × (loadOf (take size (bufferAfter s buf)) .set ≡ s)

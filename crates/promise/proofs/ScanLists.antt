@@ -26,7 +26,7 @@ use Rattle.verdict.specs.Told.{verdictTold}
 use Rattle.verdict.specs.Meaning.{Good, Means}
 use Rattle.verdict.proofs.JudgeLaws.{bad-set, short-scratch}
 use Rattle.verdict.proofs.MeaningLaws.{verdict-of, verdict-means, rejects-exactly}
-use Rattle.promise.specs.Answers.{NeverTold}
+use Rattle.promise.specs.NeverTold.{NeverTold}
 use Rattle.promise.specs.Promise.{ExactVerdict, ExactStart, RightScans}
 use Rattle.promise.proofs.Numbers.{apart}
 

@@ -23,45 +23,45 @@ use Rattle.promise.proofs.Numbers.{apart, fails-not}
 pub state-iff : (st : State) → (stateOk st ≡ true) ↔ StateAllowed st
 state-iff st = (state-parts st, λ a. state-passes st (a .0) (a .1) (a .2))
 
-pub sensor-iff : (s : Set) (now : ℕ) → (sensorOk s now ≡ true) ↔ SensorAllowed s now
-sensor-iff s now = (λ e. (sensor-lt s now e, λ k b. sensor-bits s now e k b .1), λ a. sensor-allowed s now (a .0) (a .1))
+pub sensor-iff : (s : Set) (present : ℕ) → (sensorOk s present ≡ true) ↔ SensorAllowed s present
+sensor-iff s present = (λ e. (sensor-lt s present e, λ k b. sensor-bits s present e k b .1), λ a. sensor-allowed s present (a .0) (a .1))
 
 pub request-iff : (s : Set) (request : ℕ) → (requestOk s request ≡ true) ↔ RequestAllowed s request
 request-iff s request = (request-lt s request, request-passes s request)
 
-module _ (st : State) (now request : ℕ) where
+module _ (st : State) (present request : ℕ) where
   abbrev told : List ℕ
-  told = scanTold (scanOf st now request .answer)
+  told = scanTold (scanOf st present request .answer)
 
   -- what a scan tells, by the way that it goes
   pub data Went : Type 0 where
     bad-state : ¬ StateAllowed st → told ≡ 30 ∷ [] → Went
-    bad-sensor : StateAllowed st → ¬ SensorAllowed (st .set) now → told ≡ 31 ∷ [] → Went
-    bad-request : StateAllowed st → SensorAllowed (st .set) now → ¬ RequestAllowed (st .set) request → told ≡ 32 ∷ [] → Went
-    never : StateAllowed st → SensorAllowed (st .set) now → RequestAllowed (st .set) request → ¬ Reaches (st .set) (wordOf st now) request → told ≡ 33 ∷ [] → Went
-    sent : StateAllowed st → SensorAllowed (st .set) now → RequestAllowed (st .set) request → Reaches (st .set) (wordOf st now) request
+    bad-sensor : StateAllowed st → ¬ SensorAllowed (st .set) present → told ≡ 31 ∷ [] → Went
+    bad-request : StateAllowed st → SensorAllowed (st .set) present → ¬ RequestAllowed (st .set) request → told ≡ 32 ∷ [] → Went
+    never : StateAllowed st → SensorAllowed (st .set) present → RequestAllowed (st .set) request → ¬ Reaches (st .set) (wordOf st present) request → told ≡ 33 ∷ [] → Went
+    sent : StateAllowed st → SensorAllowed (st .set) present → RequestAllowed (st .set) request → Reaches (st .set) (wordOf st present) request
         → (v k : ℕ) → told ≡ 0 ∷ v ∷ k ∷ [] → Went
 
   went : Went
   went =
       by-test (stateOk st)
-      (λ p. by-test (sensorOk (st .set) now)
+      (λ p. by-test (sensorOk (st .set) present)
       (λ q. by-test (requestOk (st .set) request)
-      (λ r. walked p q r (reaches-or-never (st .set) (state-formed st p) (wordOf st now) request (request-lt (st .set) request r)))
-      (λ r. bad-request (state-iff st .0 p) (sensor-iff (st .set) now .0 q) (fails-not (requestOk (st .set) request) (request-iff (st .set) request) .0 r)
-      (ap (λ (x : Scanned). scanTold (x .answer)) (scan-bad-request st now request p q r))))
-      (λ q. bad-sensor (state-iff st .0 p) (fails-not (sensorOk (st .set) now) (sensor-iff (st .set) now) .0 q)
-      (ap (λ (x : Scanned). scanTold (x .answer)) (scan-bad-sensor st now request p q))))
-      (λ p. bad-state (fails-not (stateOk st) (state-iff st) .0 p) (ap (λ (x : Scanned). scanTold (x .answer)) (scan-bad-state st now request p)))
+      (λ r. walked p q r (reaches-or-never (st .set) (state-formed st p) (wordOf st present) request (request-lt (st .set) request r)))
+      (λ r. bad-request (state-iff st .0 p) (sensor-iff (st .set) present .0 q) (fails-not (requestOk (st .set) request) (request-iff (st .set) request) .0 r)
+      (ap (λ (x : Scanned). scanTold (x .answer)) (scan-bad-request st present request p q r))))
+      (λ q. bad-sensor (state-iff st .0 p) (fails-not (sensorOk (st .set) present) (sensor-iff (st .set) present) .0 q)
+      (ap (λ (x : Scanned). scanTold (x .answer)) (scan-bad-sensor st present request p q))))
+      (λ p. bad-state (fails-not (stateOk st) (state-iff st) .0 p) (ap (λ (x : Scanned). scanTold (x .answer)) (scan-bad-state st present request p)))
     where
-      walked : stateOk st ≡ true → sensorOk (st .set) now ≡ true → requestOk (st .set) request ≡ true → Dec (Reaches (st .set) (wordOf st now) request) → Went
+      walked : stateOk st ≡ true → sensorOk (st .set) present ≡ true → requestOk (st .set) request ≡ true → Dec (Reaches (st .set) (wordOf st present) request) → Went
       walked p q r (yes e) =
-          sent (state-iff st .0 p) (sensor-iff (st .set) now .0 q) (request-iff (st .set) request .0 r) e
-          (vectorDue (st .set) (wordOf st now) request) (passesDue (st .set) (wordOf st now) request)
-          (ap (λ (x : Scanned). scanTold (x .answer)) (scan-sends st now request p q r e))
+          sent (state-iff st .0 p) (sensor-iff (st .set) present .0 q) (request-iff (st .set) request .0 r) e
+          (vectorDue (st .set) (wordOf st present) request) (passesDue (st .set) (wordOf st present) request)
+          (ap (λ (x : Scanned). scanTold (x .answer)) (scan-sends st present request p q r e))
       walked p q r (no n) =
-          never (state-iff st .0 p) (sensor-iff (st .set) now .0 q) (request-iff (st .set) request .0 r) n
-          (ap (λ (x : Scanned). scanTold (x .answer)) (scan-unsafe st now request p q r n))
+          never (state-iff st .0 p) (sensor-iff (st .set) present .0 q) (request-iff (st .set) request .0 r) n
+          (ap (λ (x : Scanned). scanTold (x .answer)) (scan-unsafe st present request p q r n))
 
   state-case : Went → (told ≡ 30 ∷ []) ↔ (¬ StateAllowed st)
   state-case (bad-state n e) = (λ t. n, λ x. e)
@@ -70,14 +70,14 @@ module _ (st : State) (now request : ℕ) where
   state-case (never a b c n e) = (λ t. apart 33 30 [] [] refl (sym e ∙ t), λ x. absurd (x a))
   state-case (sent a b c y v k e) = (λ t. apart 0 30 (v ∷ k ∷ []) [] refl (sym e ∙ t), λ x. absurd (x a))
 
-  sensor-case : Went → (told ≡ 31 ∷ []) ↔ (StateAllowed st × (¬ SensorAllowed (st .set) now))
+  sensor-case : Went → (told ≡ 31 ∷ []) ↔ (StateAllowed st × (¬ SensorAllowed (st .set) present))
   sensor-case (bad-state n e) = (λ t. apart 30 31 [] [] refl (sym e ∙ t), λ x. absurd (n (x .0)))
   sensor-case (bad-sensor a n e) = (λ t. (a, n), λ x. e)
   sensor-case (bad-request a b n e) = (λ t. apart 32 31 [] [] refl (sym e ∙ t), λ x. absurd (x .1 b))
   sensor-case (never a b c n e) = (λ t. apart 33 31 [] [] refl (sym e ∙ t), λ x. absurd (x .1 b))
   sensor-case (sent a b c y v k e) = (λ t. apart 0 31 (v ∷ k ∷ []) [] refl (sym e ∙ t), λ x. absurd (x .1 b))
 
-  request-case : Went → (told ≡ 32 ∷ []) ↔ (StateAllowed st × SensorAllowed (st .set) now × (¬ RequestAllowed (st .set) request))
+  request-case : Went → (told ≡ 32 ∷ []) ↔ (StateAllowed st × SensorAllowed (st .set) present × (¬ RequestAllowed (st .set) request))
   request-case (bad-state n e) = (λ t. apart 30 32 [] [] refl (sym e ∙ t), λ x. absurd (n (x .0)))
   request-case (bad-sensor a n e) = (λ t. apart 31 32 [] [] refl (sym e ∙ t), λ x. absurd (n (x .1)))
   request-case (bad-request a b n e) = (λ t. (a, b, n), λ x. e)
@@ -85,14 +85,14 @@ module _ (st : State) (now request : ℕ) where
   request-case (sent a b c y v k e) = (λ t. apart 0 32 (v ∷ k ∷ []) [] refl (sym e ∙ t), λ x. absurd (x .2 c))
 
   walk-case : Went → (told ≡ 33 ∷ [])
-      ↔ (StateAllowed st × SensorAllowed (st .set) now × RequestAllowed (st .set) request × (¬ Reaches (st .set) (wordOf st now) request))
+      ↔ (StateAllowed st × SensorAllowed (st .set) present × RequestAllowed (st .set) request × (¬ Reaches (st .set) (wordOf st present) request))
   walk-case (bad-state n e) = (λ t. apart 30 33 [] [] refl (sym e ∙ t), λ x. absurd (n (x .0)))
   walk-case (bad-sensor a n e) = (λ t. apart 31 33 [] [] refl (sym e ∙ t), λ x. absurd (n (x .1)))
   walk-case (bad-request a b n e) = (λ t. apart 32 33 [] [] refl (sym e ∙ t), λ x. absurd (n (x .2)))
   walk-case (never a b c n e) = (λ t. (a, b, c, n), λ x. e)
   walk-case (sent a b c y v k e) = (λ t. apart 0 33 (v ∷ k ∷ []) [] refl (sym e ∙ t), λ x. absurd (x .3 y))
 
-  sent-case : Went → StateAllowed st → SensorAllowed (st .set) now → RequestAllowed (st .set) request → Reaches (st .set) (wordOf st now) request
+  sent-case : Went → StateAllowed st → SensorAllowed (st .set) present → RequestAllowed (st .set) request → Reaches (st .set) (wordOf st present) request
       → (v : ℕ) × (k : ℕ) × (told ≡ 0 ∷ v ∷ k ∷ [])
   sent-case (bad-state n e) a b c y = absurd (n a)
   sent-case (bad-sensor _ n e) a b c y = absurd (n b)
@@ -100,12 +100,12 @@ module _ (st : State) (now request : ℕ) where
   sent-case (never _ _ _ n e) a b c y = absurd (n y)
   sent-case (sent _ _ _ _ v k e) a b c y = (v, k, e)
 
-  pub scan-refusals : ScanRefusals st now request
+  pub scan-refusals : ScanRefusals st present request
   scan-refusals = record {
     bad-state = state-case went;
     bad-sensor = sensor-case went;
     bad-request = request-case went;
     unsafe = walk-case went;
     sends = sent-case went;
-    kept = λ n. refused-keeps-state st now request (λ v k e. n v k (ap scanTold e));
+    kept = λ n. refused-keeps-state st present request (λ v k e. n v k (ap scanTold e));
   }

@@ -22,7 +22,7 @@ StateAllowed st = (wellFormed (st .set) ≡ true) × (st .«past_output» < 2 ^ 
 
 -- a sensor word: it has r bits, and those that are set are at sensors
 abbrev pub SensorAllowed : Set → ℕ → Type 0
-SensorAllowed s now = (now < 2 ^ s .r) × ((k : ℕ) → bit k now ≡ true → isSensor (kind s k) ≡ true)
+SensorAllowed s present = (present < 2 ^ s .r) × ((k : ℕ) → bit k present ≡ true → isSensor (kind s k) ≡ true)
 
 -- a request: it has n bits
 abbrev pub RequestAllowed : Set → ℕ → Type 0
@@ -30,7 +30,7 @@ RequestAllowed s request = request < 2 ^ s .n
 
 -- the read word of a scan: the sensor word, with past points filled from the state
 abbrev pub wordOf : State → ℕ → ℕ
-wordOf st now = readWord (st .set) (st .«past_output») (st .«past_sensor») now
+wordOf st present = readWord (st .set) (st .«past_output») (st .«past_sensor») present
 
 -- ---- names
 

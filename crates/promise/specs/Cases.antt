@@ -14,7 +14,7 @@ use Rattle.shape.specs.Finding.{findOf}
 use Rattle.shape.specs.Told.{findTold}
 use Rattle.machine.specs.History.{Call, run}
 use Rattle.machine.specs.Told.{scanTold}
-use Rattle.scan.specs.Samples.{name7, name07, name007, setP, P, now, nameA, setOf, product, clashing, endless, equalRanks, twoPairs, risingEdge, forcedOn, afterB, threePasses}
+use Rattle.scan.specs.Samples.{name7, name07, name007, setP, P, sensorS, nameA, setOf, product, clashing, endless, equalRanks, twoPairs, risingEdge, forcedOn, afterB, threePasses}
 use Rattle.verdict.specs.Judge.{judgeOf}
 use Rattle.start.specs.Start.{startOf}
 use Rattle.verdict.specs.Told.{verdictTold}
@@ -98,7 +98,7 @@ starred =
 
 -- "s and not A", "s and A" for the second of two sensors: words 2 and 3 have no safe vector
 abbrev pub clashingLater : Set
-clashingLater = setOf (now ∷ record { kind = now .kind; name = 0x74 ∷ 0 ∷ 0 ∷ 0 ∷ 0 ∷ 0 ∷ 0 ∷ 0 ∷ [] } ∷ []) (nameA ∷ []) (product 2 0 0 1 [] ∷ product 2 0 1 0 [] ∷ [])
+clashingLater = setOf (sensorS ∷ record { kind = sensorS .kind; name = 0x74 ∷ 0 ∷ 0 ∷ 0 ∷ 0 ∷ 0 ∷ 0 ∷ 0 ∷ [] } ∷ []) (nameA ∷ []) (product 2 0 0 1 [] ∷ product 2 0 1 0 [] ∷ [])
 
 -- what those leave open: verdicts, and scans from a start
 abbrev pub further : List Case

@@ -1,4 +1,4 @@
-pub mod Answers
+pub mod NeverTold
 pub mod Allowed
 pub mod Promise
 pub mod Cases

@@ -32,7 +32,7 @@ use Rattle.writer.specs.Write.{writeOf, writeAnswer, bufferAfter}
 use Rattle.loader.specs.Told.{loadTold}
 use Rattle.writer.specs.Told.{writeTold}
 use Rattle.promise.specs.Allowed.{StateAllowed, SensorAllowed, RequestAllowed, wordOf, readName, outputName, LengthAllowed, NoPoint}
-use Rattle.promise.specs.Answers.{NeverTold}
+use Rattle.promise.specs.NeverTold.{NeverTold}
 
 -- ---- demand 1: what is turned down, by which number, and what is left as it was
 
@@ -71,19 +71,19 @@ pub record VerdictRefusals (s : Set) (room : ℕ) : Type 0 where
   pub loose : wellFormed s ≡ true → 2 ^ s .n ≤ room → looseBytes s room ≡ 2 ^ s .n
 
 -- A scan of any state, with any words.
-pub record ScanRefusals (st : State) (now request : ℕ) : Type 0 where
-  pub bad-state : (scanTold (scanOf st now request .answer) ≡ 30 ∷ []) ↔ (¬ StateAllowed st)
-  pub bad-sensor : (scanTold (scanOf st now request .answer) ≡ 31 ∷ []) ↔ (StateAllowed st × (¬ SensorAllowed (st .set) now))
-  pub bad-request : (scanTold (scanOf st now request .answer) ≡ 32 ∷ [])
-      ↔ (StateAllowed st × SensorAllowed (st .set) now × (¬ RequestAllowed (st .set) request))
+pub record ScanRefusals (st : State) (present request : ℕ) : Type 0 where
+  pub bad-state : (scanTold (scanOf st present request .answer) ≡ 30 ∷ []) ↔ (¬ StateAllowed st)
+  pub bad-sensor : (scanTold (scanOf st present request .answer) ≡ 31 ∷ []) ↔ (StateAllowed st × (¬ SensorAllowed (st .set) present))
+  pub bad-request : (scanTold (scanOf st present request .answer) ≡ 32 ∷ [])
+      ↔ (StateAllowed st × SensorAllowed (st .set) present × (¬ RequestAllowed (st .set) request))
   -- 33 exactly when the walk never reaches a safe vector
-  pub unsafe : (scanTold (scanOf st now request .answer) ≡ 33 ∷ [])
-      ↔ (StateAllowed st × SensorAllowed (st .set) now × RequestAllowed (st .set) request × (¬ Reaches (st .set) (wordOf st now) request))
+  pub unsafe : (scanTold (scanOf st present request .answer) ≡ 33 ∷ [])
+      ↔ (StateAllowed st × SensorAllowed (st .set) present × RequestAllowed (st .set) request × (¬ Reaches (st .set) (wordOf st present) request))
   -- any other scan sends a vector
-  pub sends : StateAllowed st → SensorAllowed (st .set) now → RequestAllowed (st .set) request → Reaches (st .set) (wordOf st now) request
-      → (v : ℕ) × (k : ℕ) × (scanTold (scanOf st now request .answer) ≡ 0 ∷ v ∷ k ∷ [])
+  pub sends : StateAllowed st → SensorAllowed (st .set) present → RequestAllowed (st .set) request → Reaches (st .set) (wordOf st present) request
+      → (v : ℕ) × (k : ℕ) × (scanTold (scanOf st present request .answer) ≡ 0 ∷ v ∷ k ∷ [])
   -- a refused scan gives the state as it was
-  pub kept : ((v k : ℕ) → scanTold (scanOf st now request .answer) ≢ 0 ∷ v ∷ k ∷ []) → scanOf st now request .state ≡ st
+  pub kept : ((v k : ℕ) → scanTold (scanOf st present request .answer) ≢ 0 ∷ v ∷ k ∷ []) → scanOf st present request .state ≡ st
 
 -- Finding any bytes in any set.
 pub record FindRefusals (s : Set) (bytes : List ℕ) : Type 0 where
@@ -101,7 +101,7 @@ pub record Demand1 : Type 0 where
   pub loading : (file : List ℕ) → LoadRefusals file
   pub writing : (s : Set) (buf : List ℕ) → WriteRefusals s buf
   pub verdict : (s : Set) (room : ℕ) → VerdictRefusals s room
-  pub scan : (st : State) (now request : ℕ) → ScanRefusals st now request
+  pub scan : (st : State) (present request : ℕ) → ScanRefusals st present request
   pub finding : (s : Set) (bytes : List ℕ) → FindRefusals s bytes
   -- a set is well formed exactly when some file of bytes loads to it, and the set with every field zero is not
   pub formed : (s : Set) → (wellFormed s ≡ true) ↔ ((file : List ℕ) × Bytes file × (loadTold (loadOf file .answer) ≡ 0 ∷ []) × (loadOf file .set ≡ s))
@@ -112,16 +112,16 @@ pub record Demand1 : Type 0 where
 -- A scan whose state and words are allowed, of any state, started or made by hand: it sends the walk's first safe vector and reports the passes
 -- before it, at most 2 ^ f - 1, and the next state has that vector and this sensor word; or the walk never is safe, and the answer is 33.
 abbrev pub Answers : State → ℕ → ℕ → Type 0
-Answers st now request =
-    (Sends (st .set) (wordOf st now) request (scanOf st now request .answer)
-    × (scanOf st now request .state ≡ stateOf (st .set) (vectorDue (st .set) (wordOf st now) request) now))
-    ⊎ ((¬ Reaches (st .set) (wordOf st now) request) × (scanTold (scanOf st now request .answer) ≡ 33 ∷ []))
+Answers st present request =
+    (Sends (st .set) (wordOf st present) request (scanOf st present request .answer)
+    × (scanOf st present request .state ≡ stateOf (st .set) (vectorDue (st .set) (wordOf st present) request) present))
+    ⊎ ((¬ Reaches (st .set) (wordOf st present) request) × (scanTold (scanOf st present request .answer) ≡ 33 ∷ []))
 
 -- Demand 2.
 pub record Demand2 : Type 0 where
-  pub scan : (st : State) (now request : ℕ) → StateAllowed st → SensorAllowed (st .set) now → RequestAllowed (st .set) request → Answers st now request
+  pub scan : (st : State) (present request : ℕ) → StateAllowed st → SensorAllowed (st .set) present → RequestAllowed (st .set) request → Answers st present request
   -- no scan changes the set
-  pub same-set : (st : State) (now request : ℕ) → scanOf st now request .state .set ≡ st .set
+  pub same-set : (st : State) (present request : ℕ) → scanOf st present request .state .set ≡ st .set
   -- loading a written set, from the front of the buffer that it was written into, gives that set
   pub load-written : (s : Set) (buf : List ℕ) (size : ℕ) → writeTold (writeAnswer s (length buf)) ≡ 0 ∷ size ∷ []
       → (loadTold (loadOf (take size (bufferAfter s buf)) .answer) ≡ 0 ∷ []) × (loadOf (take size (bufferAfter s buf)) .set ≡ s)

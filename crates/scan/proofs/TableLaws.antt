@@ -21,7 +21,7 @@ use Rattle.scan.specs.declared.set.Constraint.{Constraint}
 use Rattle.scan.specs.declared.set.Set.{Set}
 use Rattle.scan.specs.declared.table.Table.{Table}
 use Rattle.scan.specs.declared.walk.Walk.{Walk}
-use Rattle.scan.specs.Set.{constraint, outs}
+use Rattle.scan.specs.Set.{withCounts, constraint, outs}
 use Rattle.scan.specs.Shape.{wellFormed}
 use Rattle.scan.specs.Constraint.{readsTrue, outsTrue, isTrue, combined, safe}
 use Rattle.scan.specs.Holds.{F0, F1, passLimit, startFrom, startVector}
@@ -176,8 +176,7 @@ tells s w i small apart =
 
 pub capped-formed : (s : Set) → s .n ≤ 12 → s .m ≤ 64 → capped s ≡ s
 capped-formed s hn hm =
-    ap₂ (λ (n m : ℕ). record { r = s .r; n = n; m = m; reads = s .reads; outputs = s .outputs; constraints = s .constraints })
-    (min-eq-left hn) (min-eq-left hm)
+    ap₂ (λ (n m : ℕ). withCounts s (s .r) n m) (min-eq-left hn) (min-eq-left hm)
 
 -- safety, a pass and the walk from a request, by a table
 abbrev pub safeIn : Table → ℕ → Bool

@@ -9,7 +9,7 @@ use Rattle.scan.specs.declared.set.ReadPoint.{ReadPoint}
 use Rattle.scan.specs.declared.set.OutputPoint.{OutputPoint}
 use Rattle.scan.specs.declared.set.Constraint.{Constraint}
 use Rattle.scan.specs.declared.set.Set.{Set}
-use Rattle.scan.specs.Set.{mostReads, mostOutputs, mostConstraints, namePlaces, zeroRead, zeroOutput, zeroConstraint}
+use Rattle.scan.specs.Set.{mostReads, mostOutputs, mostConstraints, namePlaces, zeroRead, zeroOutput, zeroConstraint, zeroSet, withCounts, withReads, withOutputs, withConstraints}
 
 -- ---- writing a set
 
@@ -31,14 +31,10 @@ product rp rn op on ranks = record { «read_plain» = rp; «read_negated» = rn;
 
 -- a set of these read points, outputs by name, and constraints
 abbrev pub setOf : List ReadPoint → List (List ℕ) → List Constraint → Set
-setOf reads names constraints = record {
-  r = length reads;
-  n = length names;
-  m = length constraints;
-  reads = filled mostReads zeroRead reads;
-  outputs = filled mostOutputs zeroOutput (map outputOf names);
-  constraints = filled mostConstraints zeroConstraint constraints;
-}
+setOf reads names constraints =
+    let counted = withCounts zeroSet (length reads) (length names) (length constraints) in
+    let pointed = withOutputs (withReads counted (filled mostReads zeroRead reads)) (filled mostOutputs zeroOutput (map outputOf names)) in
+    withConstraints pointed (filled mostConstraints zeroConstraint constraints)
 
 -- ---- names
 
@@ -66,9 +62,9 @@ nameB = 0x42 ∷ []
 abbrev pub nameC : List ℕ
 nameC = 0x43 ∷ []
 
--- sensor s, read point 0, "now"
-abbrev pub now : ReadPoint
-now = readOf Sensor (0x73 ∷ [])
+-- sensor s, read point 0
+abbrev pub sensorS : ReadPoint
+sensorS = readOf Sensor (0x73 ∷ [])
 
 -- ---- sets of document 01's "Tried by hand"
 
@@ -82,7 +78,7 @@ P = setP 0 1
 
 -- "s and not A", "s and A": no safe vector at word 1
 abbrev pub clashing : Set
-clashing = setOf (now ∷ []) (nameA ∷ []) (product 1 0 0 1 [] ∷ product 1 0 1 0 [] ∷ [])
+clashing = setOf (sensorS ∷ []) (nameA ∷ []) (product 1 0 0 1 [] ∷ product 1 0 1 0 [] ∷ [])
 
 -- no sensors; "A and not B", "A and B", B of rank 0 and A of rank 1 in both: a walk that never is safe
 abbrev pub endless : Set
@@ -98,13 +94,13 @@ twoPairs = setOf [] (nameA ∷ nameB ∷ nameC ∷ []) (product 0 0 3 0 (0 ∷ 1
 
 -- read point 1 is the past of sensor 0; "now, not past, A"
 abbrev pub risingEdge : Set
-risingEdge = setOf (now ∷ readOf (PastSensor 0) (0x70 ∷ []) ∷ []) (nameA ∷ []) (product 1 2 1 0 [] ∷ [])
+risingEdge = setOf (sensorS ∷ readOf (PastSensor 0) (0x70 ∷ []) ∷ []) (nameA ∷ []) (product 1 2 1 0 [] ∷ [])
 
 -- ---- sets for what those leave open
 
 -- "s and not A": A is held to 1 while s is on
 abbrev pub forcedOn : Set
-forcedOn = setOf (now ∷ []) (nameA ∷ []) (product 1 0 0 1 [] ∷ [])
+forcedOn = setOf (sensorS ∷ []) (nameA ∷ []) (product 1 0 0 1 [] ∷ [])
 
 -- read point 0 is the past of output 1, B; "past and A": A is off in the scan after B was on
 abbrev pub afterB : Set

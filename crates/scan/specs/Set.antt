@@ -67,6 +67,26 @@ zeroSet = record {
   constraints = replicate mostConstraints zeroConstraint;
 }
 
+-- ---- a set with some of its parts changed: the fields of a set are listed in `zeroSet` and here, and nowhere else
+
+-- the set with the counts r, n and m
+abbrev pub withCounts : Set → ℕ → ℕ → ℕ → Set
+withCounts s r n m = record { r = r; n = n; m = m; reads = s .reads; outputs = s .outputs; constraints = s .constraints }
+
+-- the set with these read points
+abbrev pub withReads : Set → List ReadPoint → Set
+withReads s reads = record { r = s .r; n = s .n; m = s .m; reads = reads; outputs = s .outputs; constraints = s .constraints }
+
+-- the set with these outputs
+abbrev pub withOutputs : Set → List OutputPoint → Set
+withOutputs s outputs = record { r = s .r; n = s .n; m = s .m; reads = s .reads; outputs = outputs; constraints = s .constraints }
+
+-- the set with these constraints
+abbrev pub withConstraints : Set → List Constraint → Set
+withConstraints s constraints = record { r = s .r; n = s .n; m = s .m; reads = s .reads; outputs = s .outputs; constraints = constraints }
+
+-- ---- states
+
 -- a state of the set with the two pasts
 abbrev pub stateOf : Set → ℕ → ℕ → State
 stateOf s output sensor = record { set = s; «past_output» = output; «past_sensor» = sensor }

@@ -16,7 +16,7 @@ use Rattle.scan.specs.declared.set.Constraint.{Constraint}
 use Rattle.scan.specs.declared.set.ReadPoint.{ReadPoint}
 use Rattle.scan.specs.declared.set.OutputPoint.{OutputPoint}
 use Rattle.scan.specs.declared.set.Set.{Set}
-use Rattle.scan.specs.Set.{zeroConstraint, noConstraint}
+use Rattle.scan.specs.Set.{zeroConstraint, withCounts, withConstraints, noConstraint}
 use Rattle.scan.specs.Shape.{constraintTests}
 use Rattle.scan.proofs.ShapeLaws.{Masks, constraint-masks}
 use Rattle.header.specs.declared.header.Header.{Header}
@@ -38,6 +38,7 @@ use Rattle.setfile.proofs.LiteralsBack.{literals-back}
 use Rattle.setfile.proofs.LiteralsTaken.{literals-taken}
 use Rattle.header.proofs.HeaderLaws.{table-bounds, due-is}
 use Rattle.setfile.proofs.Fields.{body-back, field-back, found}
+use Rattle.setfile.proofs.PointKinds.{outputsBase}
 use Rattle.setfile.proofs.FieldRuns.{Run, Moved}
 
 -- ---- how long a body is
@@ -83,7 +84,7 @@ body-fits r n c hr hn hs m =
 
 -- the set with these constraints
 abbrev pub constraintsBase : ℕ → ℕ → List ReadPoint → List OutputPoint → ℕ → List Constraint → Set
-constraintsBase r n reads outputs k l = record { r = r; n = n; m = k; reads = reads; outputs = outputs; constraints = l }
+constraintsBase r n reads outputs k l = withCounts (withConstraints (outputsBase r n reads 0 outputs) l) r n k
 
 -- fields of constraints; a constraint fits whichever there are before it
 abbrev pub constraintRun : List ℕ → ℕ → ℕ → List ReadPoint → List OutputPoint → Run Constraint

@@ -14,7 +14,7 @@ use Rattle.scan.specs.Shape.{countTests, constraintTests, wellFormed}
 use Rattle.scan.proofs.ShapeLaws.{constraint-ok, counts, beyond-zero, points-formed}
 use Rattle.loader.specs.declared.loader.LoadAnswer.the-variants.{Loaded}
 use Rattle.loader.specs.declared.loader.Loading.{Loading}
-use Rattle.loader.specs.Load.{goingOn, andThen, refusal, withCounts, countsGiven, countsAt, constraintsFrom, afterCounts, afterReads, afterOutputs, answerOf, loadFrom, loadOf}
+use Rattle.loader.specs.Load.{goingOn, andThen, refusal, ofCounts, countsGiven, countsAt, constraintsFrom, afterCounts, afterReads, afterOutputs, answerOf, loadFrom, loadOf}
 use Rattle.writer.specs.Write.{fieldOf, readBody, outputBody, literalBody, fieldsOf, writeOf}
 use Rattle.setfile.proofs.Fields.{field-back}
 use Rattle.setfile.proofs.PointsFit.{read-fits, output-fits}
@@ -55,12 +55,12 @@ module _ (s : Set) (ok : wellFormed s ≡ true) where
   constraint-rest k h l = constraint-blank (getD (s .constraints) k noConstraint) (beyond-zero s ok k h l)
 
   module _ (file : List ℕ) (e : file ≡ fieldOf 0x01 (s .r ∷ s .n ∷ []) ++ restFields s) where
-    counts-back : countsAt file ≡ goingOn 5 (withCounts (s .r) (s .n))
+    counts-back : countsAt file ≡ goingOn 5 (ofCounts (s .r) (s .n))
     unfolding countsAt
     counts-back =
         ap countsAt e
         ∙ ap (countsGiven (fieldOf 0x01 (s .r ∷ s .n ∷ []) ++ restFields s)) (field-back 1 (s .r ∷ s .n ∷ []) (restFields s) 1 0 refl refl refl)
-        ∙ ap (λ (b : Bool). cond b (goingOn 5 (withCounts (s .r) (s .n))) (refusal 5 0)) counts-pass
+        ∙ ap (λ (b : Bool). cond b (goingOn 5 (ofCounts (s .r) (s .n))) (refusal 5 0)) counts-pass
 
     loads : loadFrom file ≡ goingOn (length file) s
     unfolding loadFrom zeroSet

@@ -12,11 +12,11 @@ use lib.Seq.{getD-append-add}
 use borrow.Author.Tests.{lt-ltb, le-ltb, eq-eqb}
 use Rattle.words.proofs.BoolLaws.{cond-true, cond-false}
 use Rattle.words.proofs.LoopLaws.{all-true, all-at}
-use Rattle.shape.specs.declared.names.NameRead.{NameRead}
+use Rattle.shape.specs.declared.names.Spelled.{Spelled}
 use Rattle.scan.specs.Names.{nameByte, allNameBytes, padded, lengthOk, zeroAt, nameLength, nameBytes, placeOk, nameOk}
-use Rattle.shape.specs.NameRead.{nameRead}
+use Rattle.shape.specs.Spelling.{spelling}
 use Rattle.scan.proofs.NamesLaws.{name-formed, bytes-long, bytes-named, padded-bytes, padded-long, length-padded, bytes-padded}
-use Rattle.shape.proofs.NameReadLaws.{spell-name}
+use Rattle.shape.proofs.SpellingLaws.{spell-name}
 
 -- A well-formed name has 1 to 8 bytes.
 pub name-bounds : (name : List ℕ) → nameOk name ≡ true → (1 ≤ length (nameBytes name)) × (length (nameBytes name) ≤ 8)
@@ -26,7 +26,7 @@ name-bounds name e =
     (omega (arith, f .some), omega (arith, f .few))
 
 -- A well-formed name is read back.
-pub name-back : (name : List ℕ) → nameOk name ≡ true → nameRead (nameBytes name) ≡ record { good = true; name = name }
+pub name-back : (name : List ℕ) → nameOk name ≡ true → spelling (nameBytes name) ≡ record { good = true; name = name }
 name-back name e =
     let b = name-bounds name e in
     sym (spell-name (nameBytes name) (b .0) (b .1) (bytes-named name (name-formed name e))) ∙ ap (λ (n : List ℕ). record { good = true; name = n }) (padded-bytes name e)
@@ -57,18 +57,18 @@ module _ (bytes : List ℕ) (some : 1 ≤ length bytes) (few : length bytes ≤ 
       rw (eq-eqb (length (padded bytes)) 8 (padded-long bytes named few), lt-ltb 0 (nameLength (padded bytes)) (omega arith), all-true 8 (placeOk (padded bytes)) place-ok)
 
 pub record NameTaken (bytes : List ℕ) : Type 0 where
-  pub name-ok : nameOk (nameRead bytes .name) ≡ true
-  pub same : nameBytes (nameRead bytes .name) ≡ bytes
+  pub name-ok : nameOk (spelling bytes .name) ≡ true
+  pub same : nameBytes (spelling bytes .name) ≡ bytes
 
 -- A name that was read from 1 to 8 bytes is well formed, and its bytes are those that were read.
-pub name-taken : (bytes : List ℕ) → 1 ≤ length bytes → length bytes ≤ 8 → nameRead bytes .good ≡ true → NameTaken bytes
-unfolding nameRead
+pub name-taken : (bytes : List ℕ) → 1 ≤ length bytes → length bytes ≤ 8 → spelling bytes .good ≡ true → NameTaken bytes
+unfolding spelling
 name-taken bytes some few e =
     let named = tested (lengthOk bytes) (allNameBytes bytes) e in
-    let n : nameRead bytes .name ≡ padded bytes = ap (λ (r : NameRead). r .name) (sym (spell-name bytes some few named)) in
+    let n : spelling bytes .name ≡ padded bytes = ap (λ (r : Spelled). r .name) (sym (spell-name bytes some few named)) in
     record { name-ok = ap nameOk n ∙ padded-ok bytes some few named; same = ap nameBytes n ∙ bytes-padded bytes named few }
   where
-    tested : (a b : Bool) → cond {A = NameRead} (a && b) (record { good = true; name = padded bytes }) (record { good = false; name = replicate 8 0 }) .good ≡ true → b ≡ true
+    tested : (a b : Bool) → cond {A = Spelled} (a && b) (record { good = true; name = padded bytes }) (record { good = false; name = replicate 8 0 }) .good ≡ true → b ≡ true
     tested true true t = refl
     tested true false t = t
     tested false b t = let z : _≡_ {A = ℕ} 0 1 = cc in absurd (omega arith)

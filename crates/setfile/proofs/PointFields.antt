@@ -15,7 +15,7 @@ use Rattle.scan.specs.declared.set.ReadPoint.{ReadPoint}
 use Rattle.scan.specs.declared.set.OutputPoint.{OutputPoint}
 use Rattle.scan.specs.declared.set.Set.{Set}
 use Rattle.scan.specs.Set.{readPoint}
-use Rattle.shape.specs.NameRead.{nameRead}
+use Rattle.shape.specs.Spelling.{spelling}
 use Rattle.scan.specs.Names.{nameBytes, firstOutput, isUsed}
 use Rattle.scan.specs.Shape.{isSensor, kindOk}
 use Rattle.loader.specs.declared.point.Point.the-variants.{Good}
@@ -83,7 +83,7 @@ pub read-back : (set : Set) (i : ℕ) (p : ReadPoint) → ReadFits (set .n) (set
 unfolding readField
 read-back set i p f =
     ap (readTold (readBody p) set i) (kind-back set i (p .kind) (nameBytes (p .name)) (f .kind-ok))
-    ∙ ap (readNamed set i (p .kind)) (ap nameRead (kind-drop (p .kind) (nameBytes (p .name))) ∙ name-back (p .name) (f .name-ok))
+    ∙ ap (readNamed set i (p .kind)) (ap spelling (kind-drop (p .kind) (nameBytes (p .name))) ∙ name-back (p .name) (f .name-ok))
     ∙ ap (λ (b : Bool). cond b (deniedRead 8) (record { point = Good; read = p })) (not-used (set .reads) i (set .outputs) 0 (p .name) (f .own) (no-outputs set (p .name)))
 
 module _ (body : List ℕ) (set : Set) (i : ℕ) (some : 3 ≤ length body) (few : length body ≤ 10) where
@@ -91,10 +91,10 @@ module _ (body : List ℕ) (set : Set) (i : ℕ) (some : 3 ≤ length body) (few
   Taken : ReadPoint → Type 0
   Taken p = ReadFits (set .n) (set .reads) i p × (readBody p ≡ body)
 
-  by-name : (kind : Kind) → kindOf set i (getD body 0 0) (getD body 1 0) ≡ Known kind → (g u : Bool) → nameRead (drop 2 body) .good ≡ g
-      → isUsed (set .reads) i (set .outputs) 0 (nameRead (drop 2 body) .name) ≡ u
-      → cond {A = ReadField} g (cond u (deniedRead 8) (record { point = Good; read = record { kind = kind; name = nameRead (drop 2 body) .name } })) (deniedRead 7) .point ≡ Good
-      → Taken (cond {A = ReadField} g (cond u (deniedRead 8) (record { point = Good; read = record { kind = kind; name = nameRead (drop 2 body) .name } })) (deniedRead 7) .read)
+  by-name : (kind : Kind) → kindOf set i (getD body 0 0) (getD body 1 0) ≡ Known kind → (g u : Bool) → spelling (drop 2 body) .good ≡ g
+      → isUsed (set .reads) i (set .outputs) 0 (spelling (drop 2 body) .name) ≡ u
+      → cond {A = ReadField} g (cond u (deniedRead 8) (record { point = Good; read = record { kind = kind; name = spelling (drop 2 body) .name } })) (deniedRead 7) .point ≡ Good
+      → Taken (cond {A = ReadField} g (cond u (deniedRead 8) (record { point = Good; read = record { kind = kind; name = spelling (drop 2 body) .name } })) (deniedRead 7) .read)
   unfolding Taken
   by-name kind e false u a b t = let z : _≡_ {A = ℕ} 0 1 = cc in absurd (omega arith)
   by-name kind e true true a b t = let z : _≡_ {A = ℕ} 0 1 = cc in absurd (omega arith)
@@ -102,14 +102,14 @@ module _ (body : List ℕ) (set : Set) (i : ℕ) (some : 3 ≤ length body) (few
       let l = length-drop 2 body in
       let k = kind-taken set i (getD body 0 0) (getD body 1 0) kind e in
       let n = name-taken (drop 2 body) (omega arith) (omega arith) a in (
-        record { kind-ok = k .1; name-ok = n .name-ok; own = unused (set .reads) i (set .outputs) 0 (nameRead (drop 2 body) .name) b .0 },
+        record { kind-ok = k .1; name-ok = n .name-ok; own = unused (set .reads) i (set .outputs) 0 (spelling (drop 2 body) .name) b .0 },
         ap₂ _++_ (k .0) (n .same) ∙ sym (two-and-rest body (omega arith)),
       )
 
   by-kind : (kr : KindRead) → kindOf set i (getD body 0 0) (getD body 1 0) ≡ kr → readTold body set i kr .point ≡ Good → Taken (readTold body set i kr .read)
   by-kind Bad e t = let z : _≡_ {A = ℕ} 0 1 = cc in absurd (omega arith)
   by-kind (Known kind) e t =
-      by-name kind e (nameRead (drop 2 body) .good) (isUsed (set .reads) i (set .outputs) 0 (nameRead (drop 2 body) .name)) refl refl t
+      by-name kind e (spelling (drop 2 body) .good) (isUsed (set .reads) i (set .outputs) 0 (spelling (drop 2 body) .name)) refl refl t
 
   -- A body that gives a read point is the one written for it, and the point fits.
   pub read-taken : readField body set i .point ≡ Good → ReadFits (set .n) (set .reads) i (readField body set i .read) × (readBody (readField body set i .read) ≡ body)
@@ -129,15 +129,15 @@ output-back set j p f =
 pub output-taken : (body : List ℕ) (set : Set) (j : ℕ) → 1 ≤ length body → length body ≤ 8 → outputField body set j .point ≡ Good
     → OutputFits (set .reads) (set .r) (set .outputs) j (outputField body set j .output) × (outputBody (outputField body set j .output) ≡ body)
 unfolding outputField
-output-taken body set j some few t = go (nameRead body .good) (isUsed (set .reads) (set .r) (set .outputs) j (nameRead body .name)) refl refl t
+output-taken body set j some few t = go (spelling body .good) (isUsed (set .reads) (set .r) (set .outputs) j (spelling body .name)) refl refl t
   where
-    go : (g u : Bool) → nameRead body .good ≡ g → isUsed (set .reads) (set .r) (set .outputs) j (nameRead body .name) ≡ u
-        → cond {A = OutputField} g (cond u (deniedOutput 8) (record { point = Good; output = record { name = nameRead body .name } })) (deniedOutput 7) .point ≡ Good
-        → OutputFits (set .reads) (set .r) (set .outputs) j (cond {A = OutputField} g (cond u (deniedOutput 8) (record { point = Good; output = record { name = nameRead body .name } })) (deniedOutput 7) .output)
-        × (outputBody (cond {A = OutputField} g (cond u (deniedOutput 8) (record { point = Good; output = record { name = nameRead body .name } })) (deniedOutput 7) .output) ≡ body)
+    go : (g u : Bool) → spelling body .good ≡ g → isUsed (set .reads) (set .r) (set .outputs) j (spelling body .name) ≡ u
+        → cond {A = OutputField} g (cond u (deniedOutput 8) (record { point = Good; output = record { name = spelling body .name } })) (deniedOutput 7) .point ≡ Good
+        → OutputFits (set .reads) (set .r) (set .outputs) j (cond {A = OutputField} g (cond u (deniedOutput 8) (record { point = Good; output = record { name = spelling body .name } })) (deniedOutput 7) .output)
+        × (outputBody (cond {A = OutputField} g (cond u (deniedOutput 8) (record { point = Good; output = record { name = spelling body .name } })) (deniedOutput 7) .output) ≡ body)
     go false u a b v = let z : _≡_ {A = ℕ} 0 1 = cc in absurd (omega arith)
     go true true a b v = let z : _≡_ {A = ℕ} 0 1 = cc in absurd (omega arith)
     go true false a b v =
         let n = name-taken body some few a in
-        let w = unused (set .reads) (set .r) (set .outputs) j (nameRead body .name) b in
+        let w = unused (set .reads) (set .r) (set .outputs) j (spelling body .name) b in
         (record { name-ok = n .name-ok; no-read = w .0; own = w .1 }, n .same)

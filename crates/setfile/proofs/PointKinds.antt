@@ -13,7 +13,7 @@ use Rattle.scan.specs.declared.set.Kind.the-variants.{Sensor, PastOutput, PastS
 use Rattle.scan.specs.declared.set.ReadPoint.{ReadPoint}
 use Rattle.scan.specs.declared.set.OutputPoint.{OutputPoint}
 use Rattle.scan.specs.declared.set.Set.{Set}
-use Rattle.scan.specs.Set.{zeroRead, zeroOutput, zeroSet, noRead, noOutput}
+use Rattle.scan.specs.Set.{zeroRead, zeroOutput, withReads, withOutputs, noRead, noOutput}
 use Rattle.scan.specs.Names.{nameBytes}
 use Rattle.header.specs.declared.header.Header.{Header}
 use Rattle.header.specs.declared.header.Header.the-variants.{Refused as Stopped, Field}
@@ -23,7 +23,7 @@ use Rattle.loader.specs.declared.point.ReadField.{ReadField}
 use Rattle.loader.specs.declared.point.OutputField.{OutputField}
 use Rattle.loader.specs.declared.loader.Loading.{Loading}
 use Rattle.header.specs.Header.{headerOf, bodyOf, fitsTable}
-use Rattle.loader.specs.Load.{goingOn, andThen, readField, readDone, readGiven, readAt, readsFrom, outputField, outputDone, outputGiven, outputAt, outputsFrom}
+use Rattle.loader.specs.Load.{goingOn, andThen, ofCounts, readField, readDone, readGiven, readAt, readsFrom, outputField, outputDone, outputGiven, outputAt, outputsFrom}
 use Rattle.writer.specs.Write.{kindBytes, readBody, outputBody}
 use Rattle.header.proofs.HeaderLaws.{table-bounds}
 use Rattle.setfile.proofs.NamesBack.{name-bounds}
@@ -36,7 +36,7 @@ use Rattle.setfile.proofs.PointRuns.{pointDone, pointGiven, PointRun}
 
 -- the set of r and n with these read points
 abbrev pub readsBase : ℕ → ℕ → ℕ → List ReadPoint → Set
-readsBase r n i l = record { r = r; n = n; m = 0; reads = l; outputs = zeroSet .outputs; constraints = zeroSet .constraints }
+readsBase r n i l = withReads (ofCounts r n) l
 
 abbrev pub readRun : List ℕ → ℕ → ℕ → Run ReadPoint
 readRun file r n = record {
@@ -113,7 +113,7 @@ module _ (file : List ℕ) (r n : ℕ) where
 
 -- the set with these outputs
 abbrev pub outputsBase : ℕ → ℕ → List ReadPoint → ℕ → List OutputPoint → Set
-outputsBase r n reads j l = record { r = r; n = n; m = 0; reads = reads; outputs = l; constraints = zeroSet .constraints }
+outputsBase r n reads j l = withOutputs (readsBase r n 0 reads) l
 
 abbrev pub outputRun : List ℕ → ℕ → ℕ → List ReadPoint → Run OutputPoint
 outputRun file r n reads = record {

@@ -5,7 +5,7 @@ use Rattle.words.specs.Word.{odd, bit}
 use Rattle.words.specs.Loop.{all, first, firstFrom}
 use Rattle.scan.specs.Set.{zeroSet}
 use Rattle.scan.specs.Names.{nameByte, allNameBytes, nameLength, nameBytes, sameName, readNamed, firstRead, outputNamed, firstOutput, isUsed}
-use Rattle.shape.specs.NameRead.{nameRead}
+use Rattle.shape.specs.Spelling.{spelling}
 use Rattle.scan.specs.Shape.{countTests}
 use Rattle.scan.specs.Samples.{P}
 use Rattle.loader.specs.declared.loader.LoadAnswer.the-variants.{Loaded}
@@ -17,7 +17,7 @@ use Rattle.setfile.specs.SampleFile.{fileP}
 
 -- The file loads to P.
 pub P-loads : loadOf fileP ≡ record { answer = Loaded; set = P }
-unfolding all firstFrom first zeroSet nameByte allNameBytes nameRead sameName readNamed firstRead outputNamed firstOutput isUsed countTests headerOf withLiteral literalsFrom countsAt kindOf readField readAt readsFrom outputField outputAt outputsFrom constraintAt constraintsFrom loadFrom loadOf
+unfolding all firstFrom first zeroSet nameByte allNameBytes spelling sameName readNamed firstRead outputNamed firstOutput isUsed countTests headerOf withLiteral literalsFrom countsAt kindOf readField readAt readsFrom outputField outputAt outputsFrom constraintAt constraintsFrom loadFrom loadOf
 P-loads = refl
 
 -- P's file is the file.

@@ -21,7 +21,7 @@ use Rattle.loader.specs.declared.loader.LoadAnswer.the-variants.{Loaded}
 use Rattle.loader.specs.declared.loader.Loading.{Loading}
 use Rattle.header.specs.Bytes.{Bytes}
 use Rattle.header.specs.Header.{headerOf, bodyOf, fitsTable}
-use Rattle.loader.specs.Load.{refusal, goingOn, thenFrom, andThen, withCounts, countsGiven, countsAt, readsFrom, outputsFrom, constraintsFrom, afterCounts, afterReads, afterOutputs, answerOf, loadFrom, loadOf}
+use Rattle.loader.specs.Load.{refusal, goingOn, thenFrom, andThen, ofCounts, countsGiven, countsAt, readsFrom, outputsFrom, constraintsFrom, afterCounts, afterReads, afterOutputs, answerOf, loadFrom, loadOf}
 use Rattle.writer.specs.Write.{fieldOf, fieldsOf, readBody, outputBody, literalBody, writeOf}
 use Rattle.header.proofs.HeaderLaws.{table-bounds, due-is}
 use Rattle.setfile.proofs.Fields.{two-bytes, found}
@@ -46,7 +46,7 @@ record Counted (file : List ℕ) : Type 0 where
   reads : ℕ
   outputs : ℕ
   passed : every (countTests reads outputs 0) ≡ true
-  loaded : countsAt file ≡ goingOn 5 (withCounts reads outputs)
+  loaded : countsAt file ≡ goingOn 5 (ofCounts reads outputs)
   written : file ≡ fieldOf 1 (reads ∷ outputs ∷ []) ++ drop 5 file
 
 counted : (file : List ℕ) → Bytes file → (at : ℕ) → countsAt file .progress ≡ At at → Counted file
@@ -54,7 +54,7 @@ unfolding countsAt
 counted file bytes at e = by-header (headerOf file 1 0) refl e
   where
     by-test : (tag len : ℕ) → headerOf file 1 0 ≡ Field tag len → (t : Bool) → every (countTests (getD (bodyOf file len) 0 0) (getD (bodyOf file len) 1 0) 0) ≡ t
-        → cond t (goingOn (3 + len) (withCounts (getD (bodyOf file len) 0 0) (getD (bodyOf file len) 1 0))) (refusal 5 0) .progress ≡ At at → Counted file
+        → cond t (goingOn (3 + len) (ofCounts (getD (bodyOf file len) 0 0) (getD (bodyOf file len) 1 0))) (refusal 5 0) .progress ≡ At at → Counted file
     by-test tag len hd false t u = let z : _≡_ {A = ℕ} 0 1 = cc in absurd (omega arith)
     by-test tag len hd true t u =
         let f = found file 0 1 0 tag len bytes hd in
@@ -70,8 +70,8 @@ counted file bytes at e = by-header (headerOf file 1 0) refl e
           outputs = n;
           passed = t;
           loaded =
-              ap (countsGiven file) hd ∙ ap (λ (b : Bool). cond b (goingOn (3 + len) (withCounts r n)) (refusal 5 0)) t
-              ∙ ap (λ (x : ℕ). goingOn (3 + x) (withCounts r n)) two;
+              ap (countsGiven file) hd ∙ ap (λ (b : Bool). cond b (goingOn (3 + len) (ofCounts r n)) (refusal 5 0)) t
+              ∙ ap (λ (x : ℕ). goingOn (3 + x) (ofCounts r n)) two;
           written = whole ∙ ap (λ (x : ℕ). fieldOf 1 (r ∷ n ∷ []) ++ drop (0 + 3 + x) file) two;
         }
 
@@ -102,7 +102,7 @@ module _ (file : List ℕ) (bytes : Bytes file) (last : ℕ) (c : Counted file) 
   limited : (r ≤ 16) × (n ≤ 12) × (r + n ≤ 24)
   limited = limits r n (c .passed)
 
-  module _ (at1 : ℕ) (reads : List ReadPoint) (a : Done file (readRun file r n) 5 r at1 reads) (a-load : readsFrom file r 0 5 (withCounts r n) ≡ goingOn at1 (readsBase r n r reads)) where
+  module _ (at1 : ℕ) (reads : List ReadPoint) (a : Done file (readRun file r n) 5 r at1 reads) (a-load : readsFrom file r 0 5 (ofCounts r n) ≡ goingOn at1 (readsBase r n r reads)) where
     module _ (at2 : ℕ) (outputs : List OutputPoint) (b : Done file (outputRun file r n reads) at1 n at2 outputs)
         (b-load : outputsFrom file n 0 at1 (readsBase r n r reads) ≡ goingOn at2 (outputsBase r n reads n outputs)) where
       -- all of them
@@ -158,10 +158,10 @@ module _ (file : List ℕ) (bytes : Bytes file) (last : ℕ) (c : Counted file) 
         constraints-read (b .0) (b .1) (b .2) (b .3) (ap (λ (l : Loading). andThen l (afterOutputs file) .progress) (sym (b .3)) ∙ e)
 
   -- the read points
-  reads-read : andThen (readsFrom file r 0 5 (withCounts r n)) (afterReads file) .progress ≡ At last → Read file
+  reads-read : andThen (readsFrom file r 0 5 (ofCounts r n)) (afterReads file) .progress ≡ At last → Read file
   unfolding zeroSet
   reads-read e =
-      let s = came (readsFrom file r 0 5 (withCounts r n)) (afterReads file) last e in
+      let s = came (readsFrom file r 0 5 (ofCounts r n)) (afterReads file) last e in
       let a = points-taken file (readPoints file r n) bytes r (limited .0) 5 (s .0) (s .1) in
       outputs-read (a .0) (a .1) (a .2) (a .3) (ap (λ (l : Loading). andThen l (afterReads file) .progress) (sym (a .3)) ∙ e)
 

@@ -1,5 +1,5 @@
 pub mod NamesWayLaws
 pub mod ShapeWayLaws
-pub mod NameReadLaws
+pub mod SpellingLaws
 pub mod FindingLaws
 pub mod FoundPoints

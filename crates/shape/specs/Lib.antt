@@ -1,4 +1,4 @@
-pub mod NameRead
+pub mod Spelling
 pub mod Finding
 pub mod Told
 pub mod way

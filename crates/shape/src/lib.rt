@@ -5,8 +5,8 @@ mod finding; // finding a point by its name
 
 pub use finding::Found;
 pub use finding::find;
-pub use names::NameRead;
+pub use names::Spelled;
 pub use names::is_used;
-pub use names::read_name;
+pub use names::spell;
 pub use shape::is_sensor;
 pub use shape::well_formed;

@@ -12,11 +12,11 @@ ghost use mathlib.Core.Path.{_≡_};
 ghost use mathlib.Core.Bool.{false};
 ghost use Prim.Native.Nat.{_≤_, min};
 ghost use lib.ListN.{length};
-ghost use Rattle.shape.specs.declared.names.NameRead.{NameRead};
+ghost use Rattle.shape.specs.declared.names.Spelled.{Spelled};
 ghost use Rattle.scan.specs.Set.{zeroName};
 ghost use Rattle.scan.specs.Names.{nameByte, allNameBytes, padded, nameOk, nameZero, sameName, firstRead, firstOutput, isUsed};
 ghost use Rattle.shape.specs.way.Names.{nextOk, firstName, ReadNames, OutputNames};
-ghost use Rattle.shape.specs.NameRead.{nameRead};
+ghost use Rattle.shape.specs.Spelling.{spelling};
 
 // Whether a name may have the byte.
 pub fn is_name_byte(b: u8) -> bool
@@ -53,21 +53,21 @@ pub fn pad(bytes: &[u8]) -> [u8; NAME_PLACES]
 }
 
 // The eight places of a name, or that bytes are none, beside zeros.
-pub struct NameRead {
+pub struct Spelled {
     pub good: bool,
     pub name: [u8; NAME_PLACES],
 }
 
-fn no_name() -> NameRead
+fn no_name() -> Spelled
     ensures { λ r. ⌜ r ≡ record { good = false; name = zeroName } ⌝ }
 {
     let name = [0u8; NAME_PLACES];
-    NameRead { good: false, name }
+    Spelled { good: false, name }
 }
 
 // The name that the bytes spell.
-pub fn read_name(bytes: &[u8]) -> NameRead
-    ensures { λ r. ⌜ r ≡ nameRead (now (bytes .entry)) ⌝ }
+pub fn spell(bytes: &[u8]) -> Spelled
+    ensures { λ r. ⌜ r ≡ spelling (now (bytes .entry)) ⌝ }
 {
     if bytes.len() < 1 {
         return no_name();
@@ -79,7 +79,7 @@ pub fn read_name(bytes: &[u8]) -> NameRead
         return no_name();
     }
     let name = pad(bytes);
-    NameRead { good: true, name }
+    Spelled { good: true, name }
 }
 
 // A zero, or a name byte behind a byte that is no zero.
@@ -169,7 +169,7 @@ pub fn first_output(
 }
 
 // The names of the read points, for functions to which they are lent.
-pub fn read_names(reads: [ReadPoint; MOST_READS]) -> [[u8; NAME_PLACES]; MOST_READS]
+pub fn names_of_reads(reads: [ReadPoint; MOST_READS]) -> [[u8; NAME_PLACES]; MOST_READS]
     ensures { λ r. ⌜ ReadNames r reads ⌝ }
 {
     let none = [0u8; NAME_PLACES];
@@ -185,7 +185,7 @@ pub fn read_names(reads: [ReadPoint; MOST_READS]) -> [[u8; NAME_PLACES]; MOST_RE
 }
 
 // The names of the outputs.
-pub fn output_names(outputs: [OutputPoint; MOST_OUTPUTS]) -> [[u8; NAME_PLACES]; MOST_OUTPUTS]
+pub fn names_of_outputs(outputs: [OutputPoint; MOST_OUTPUTS]) -> [[u8; NAME_PLACES]; MOST_OUTPUTS]
     ensures { λ r. ⌜ OutputNames r outputs ⌝ }
 {
     let none = [0u8; NAME_PLACES];

@@ -3,8 +3,8 @@ use super::names::first_of_outputs;
 use super::names::first_of_reads;
 use super::names::is_name;
 use super::names::is_zero_name;
-use super::names::output_names;
-use super::names::read_names;
+use super::names::names_of_outputs;
+use super::names::names_of_reads;
 use choice::both;
 use choice::either;
 use choice::keep32;
@@ -289,8 +289,8 @@ pub fn well_formed(set: Set) -> bool
     if are_counts_ok(r, n, m) {
         let reads = set.reads;
         let outputs = set.outputs;
-        let names = read_names(reads);
-        let own = output_names(outputs);
+        let names = names_of_reads(reads);
+        let own = names_of_outputs(outputs);
         return both(
             are_reads_ok(&names, reads, r, n),
             both(are_outputs_ok(&names, r, &own, n), are_constraints_ok(set)),

@@ -11,7 +11,7 @@ use lib.Pow.{pow-pos, pow-lt}
 use lib.Bits.{bitOr, or-lt, and-mask}
 use borrow.Author.Tests.{eq-eqb, ne-eqb, ltb-true, ltb-false}
 use Rattle.words.specs.Word.{bit}
-use Rattle.words.specs.Loop.{gather, place, word, some, all, firstFrom, first}
+use Rattle.words.specs.Loop.{gather, bitIf, word, some, all, firstFrom, first}
 use Rattle.words.proofs.BoolLaws.{by-test, clash, or-true, and-true, and-false}
 use Rattle.words.proofs.BitLaws.{bit-and, bit-or, bit-zero, bit-pow, no-bits}
 
@@ -181,25 +181,25 @@ pub bit-cond : (b : Bool) (k a : ℕ) → bit k (cond b a 0) ≡ b && bit k a
 bit-cond true k a = refl
 bit-cond false k a = bit-zero k
 
-bit-place : (p : ℕ → Bool) (k i : ℕ) → bit k (place p i) ≡ p i && eqb k i
-unfolding place
-bit-place p k i = bit-cond (p i) k (2 ^ i) ∙ ap (λ (b : Bool). p i && b) (bit-pow k i)
+bit-if : (p : ℕ → Bool) (k i : ℕ) → bit k (bitIf p i) ≡ p i && eqb k i
+unfolding bitIf
+bit-if p k i = bit-cond (p i) k (2 ^ i) ∙ ap (λ (b : Bool). p i && b) (bit-pow k i)
 
 pub bit-word : (k n : ℕ) (p : ℕ → Bool) → k < n → bit k (word n p) ≡ p k
 unfolding word
 bit-word k n p h =
-    bit-gather k n (place p)
+    bit-gather k n (bitIf p)
     ∙ by-test (p k)
-    (λ q. some-true n (λ i. bit k (place p i)) k h (bit-place p k k ∙ ap₂ _&&_ q (eq-eqb k k refl)) ∙ sym q)
-    (λ q. some-false n (λ i. bit k (place p i)) (λ i l. bit-place p k i ∙ go i q (ℕ-discrete k i)) ∙ sym q)
+    (λ q. some-true n (λ i. bit k (bitIf p i)) k h (bit-if p k k ∙ ap₂ _&&_ q (eq-eqb k k refl)) ∙ sym q)
+    (λ q. some-false n (λ i. bit k (bitIf p i)) (λ i l. bit-if p k i ∙ go i q (ℕ-discrete k i)) ∙ sym q)
   where
     go : (i : ℕ) → p k ≡ false → Dec (k ≡ i) → p i && eqb k i ≡ false
     go i q (yes e) = ap (λ (b : Bool). b && eqb k i) (ap p (sym e) ∙ q)
     go i q (no ne) = and-false (p i) (eqb k i) (ne-eqb k i ne)
 
 pub word-lt : (n : ℕ) (p : ℕ → Bool) → word n p < 2 ^ n
-unfolding word place
-word-lt n p = gather-lt n n (place p) (λ i h. small i h (p i))
+unfolding word bitIf
+word-lt n p = gather-lt n n (bitIf p) (λ i h. small i h (p i))
   where
     small : (i : ℕ) → i < n → (b : Bool) → cond b (2 ^ i) 0 < 2 ^ n
     small i h true = pow-lt h

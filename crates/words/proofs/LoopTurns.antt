@@ -7,7 +7,7 @@ use Prim.Native.Nat.{ℕ, _+_, _*_, _%_, _^_, _≤_, _<_}
 use native.Mathlib.Numerals.{add-one}
 use lib.Bits.{bitOr}
 use native.Mathlib.Omega.{arith}
-use Rattle.words.specs.Loop.{gather, some, all, first, place, word}
+use Rattle.words.specs.Loop.{gather, some, all, first, bitIf, word}
 use Rattle.words.proofs.ShiftLaws.{one-shl}
 use Rattle.words.proofs.LoopLaws.{some-false-at, first-is, first-none}
 
@@ -59,17 +59,17 @@ kept-turn f n z r x y b t ez eb ex ef er = gather-step f n z r ez (er ∙ (λ i.
 
 pub word-none : (p : ℕ → Bool) → 0 ≡ word 0 p
 unfolding word
-word-none p = gather-none (place p)
+word-none p = gather-none (bitIf p)
 
 pub word-step : (p : ℕ → Bool) (k z r : ℕ) → z ≡ word k p → r ≡ cond (p k) (2 ^ k) 0 → bitOr z r ≡ word (k + 1) p
-unfolding word place
-word-step p k z r ez er = gather-step (place p) k z r ez er
+unfolding word bitIf
+word-step p k z r ez er = gather-step (bitIf p) k z r ez er
 
 -- bit k of a word of `wide` bits, as code sets it: `1 << k` if the test passed
 pub word-turn : (p : ℕ → Bool) (wide k z r : ℕ) (b : Bool) → k < wide → z ≡ word k p → b ≡ p k → r ≡ cond b ((1 * 2 ^ k) % 2 ^ wide) 0
     → bitOr z r ≡ word (k + 1) p
-unfolding word place
-word-turn p wide k z r b h ez eb er = kept-turn (place p) k z r _ (2 ^ k) b (p k) ez eb (one-shl wide k h) refl er
+unfolding word bitIf
+word-turn p wide k z r b h ez eb er = kept-turn (bitIf p) k z r _ (2 ^ k) b (p k) ez eb (one-shl wide k h) refl er
 
 pub some-step : (p : ℕ → Bool) (n : ℕ) (b r x : Bool) → b ≡ some n p → r ≡ p n → x ≡ (b || r) → x ≡ some (n + 1) p
 some-step p n b r x eb er ex = ex ∙ ap₂ _||_ eb er ∙ sym (some-more n p)

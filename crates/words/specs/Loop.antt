@@ -40,12 +40,12 @@ gather zero f = 0
 gather (suc n) f = bitOr (gather n f) (f n)
 
 -- bit k alone if p k, else no bit
-unfoldable pub place : (ℕ → Bool) → ℕ → ℕ
-place p k = cond (p k) (2 ^ k) 0
+unfoldable pub bitIf : (ℕ → Bool) → ℕ → ℕ
+bitIf p k = cond (p k) (2 ^ k) 0
 
 -- the word of n bits whose bit k is p k
 unfoldable pub word : ℕ → (ℕ → Bool) → ℕ
-word n p = gather n (place p)
+word n p = gather n (bitIf p)
 
 -- f applied k times
 unfoldable pub iterate : (ℕ → ℕ) → ℕ → ℕ → ℕ

@@ -12,7 +12,7 @@ use Rattle.words.specs.Loop.{gather, some}
 use Rattle.scan.specs.declared.set.Constraint.{Constraint}
 use Rattle.scan.specs.declared.set.Set.{Set}
 use Rattle.scan.specs.declared.table.Table.{Table}
-use Rattle.scan.specs.Set.{mostOutputs, mostConstraints, constraint, outs}
+use Rattle.scan.specs.Set.{mostOutputs, mostConstraints, withCounts, constraint, outs}
 use Rattle.scan.specs.Constraint.{readsTrue, combined}
 use Rattle.scan.specs.Holds.{F0, F1, passLimit}
 use Rattle.scan.specs.Pass.{yields}
@@ -21,14 +21,7 @@ use Rattle.scan.specs.Pass.{yields}
 
 -- the set with its counts cut to the places that there are; a well-formed set is its own
 abbrev pub capped : Set → Set
-capped s = record {
-  r = s .r;
-  n = min (s .n) mostOutputs;
-  m = min (s .m) mostConstraints;
-  reads = s .reads;
-  outputs = s .outputs;
-  constraints = s .constraints;
-}
+capped s = withCounts s (s .r) (min (s .n) mostOutputs) (min (s .m) mostConstraints)
 
 -- a constraint has an entry at the read word: it is combined and its read literals are true
 unfoldable pub active : Constraint → ℕ → Bool

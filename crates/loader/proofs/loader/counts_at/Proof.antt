@@ -12,7 +12,7 @@ use Rattle.scan.specs.Set.{zeroSet}
 use Rattle.scan.specs.Shape.{countTests}
 use Rattle.scan.proofs.ShapeLaws.{many-reads, many-outputs}
 use Rattle.header.specs.Header.{headerOf}
-use Rattle.loader.specs.Load.{refusal, goingOn, withCounts, countsAt}
+use Rattle.loader.specs.Load.{refusal, goingOn, ofCounts, countsAt}
 use Rattle.header.specs.declared.header.Header.the-variants.{Field}
 use Rattle.header.proofs.HeaderLaws.{found, counts-length, front-place, front-there}
 use Rattle.loader.proofs.LoadLaws.{counts-stopped, counts-bad, counts-good, no-output, many-points, counts-right}
@@ -57,8 +57,8 @@ module _ (s : List ℕ) (tag at : ℕ) (z : at ≡ 0) (h : headerOf s 1 0 ≡ Fi
   bad : every (countTests (getD s (at + 3) 0) (getD s (at + 4) 0) 0) ≡ false → refusal 5 at ≡ countsAt s
   bad f = ap (refusal 5) z ∙ sym (counts-bad s tag h (tests false f))
 
-  good : every (countTests (getD s (at + 3) 0) (getD s (at + 4) 0) 0) ≡ true → goingOn (at + 5) (withCounts (getD s (at + 3) 0) (getD s (at + 4) 0)) ≡ countsAt s
-  good f = ap (λ (x : ℕ). goingOn (x + 5) (withCounts (getD s (x + 3) 0) (getD s (x + 4) 0))) z ∙ sym (counts-good s tag h (tests true f))
+  good : every (countTests (getD s (at + 3) 0) (getD s (at + 4) 0) 0) ≡ true → goingOn (at + 5) (ofCounts (getD s (at + 3) 0) (getD s (at + 4) 0)) ≡ countsAt s
+  good f = ap (λ (x : ℕ). goingOn (x + 5) (ofCounts (getD s (x + 3) 0) (getD s (x + 4) 0))) z ∙ sym (counts-good s tag h (tests true f))
 
 -- the header, at its length
 header : (c : tie.After-known-told2) → headerOf (now (c .before .before .before .before .before .args .s)) 1 0 ≡ Field (c .before .header2 .given .0 .0) 2

@@ -7,8 +7,8 @@ use borrow.Author.Needs.{needs}
 use Rattle.loader.proofs.point.output_field.Statement.{statement}
 use Rattle.loader.proofs.point.output_field.Tie as tie
 
-read-name-requires : tie.Need-read-name-requires
-read-name-requires c κs = search needs
+spell-requires : tie.Need-spell-requires
+spell-requires c κs = search needs
 
 denied-output-requires : tie.Need-denied-output-requires
 denied-output-requires c κs = search needs
@@ -18,7 +18,7 @@ returns c =
     let n = c .before .before .before in
     let a = n .before .before .args in
     c .denied-output .ensures
-    ∙ sym (output-unnamed (now (a .body)) (a .set) (a .j) (n .read-name .result) (n .read-name .ensures) (not-true (n .read-name .result .good) (c .before .if1 .taken)))
+    ∙ sym (output-unnamed (now (a .body)) (a .set) (a .j) (n .spell .result) (n .spell .ensures) (not-true (n .spell .result .good) (c .before .if1 .taken)))
 
 is-used-requires : tie.Need-is-used-requires
 is-used-requires c κs = search needs
@@ -32,10 +32,10 @@ returns-2 c =
     let n = u .before .before .before .before in
     let s = n .before .before in
     let a = s .args in
-    let got = n .read-name .result in
+    let got = n .spell .result in
     c .denied-output2 .ensures
     ∙ sym
-    (output-used (now (a .body)) (a .set) (a .j) got (n .read-name .ensures) (not-false (got .good) (u .before .before .if1 .left))
+    (output-used (now (a .body)) (a .set) (a .j) got (n .spell .ensures) (not-false (got .good) (u .before .before .if1 .left))
     (used-of (a .set) (a .set .r) (a .j) (got .name) _ (s .pre .1) (s .pre .2) (u .is-used .ensures) ∙ c .before .if2 .taken))
 
 returns-3 : tie.Need-returns-3
@@ -44,16 +44,16 @@ returns-3 c =
     let n = u .before .before .before .before in
     let s = n .before .before in
     let a = s .args in
-    let got = n .read-name .result in
+    let got = n .spell .result in
     sym
-    (output-good (now (a .body)) (a .set) (a .j) got (n .read-name .ensures) (not-false (got .good) (u .before .before .if1 .left))
+    (output-good (now (a .body)) (a .set) (a .j) got (n .spell .ensures) (not-false (got .good) (u .before .before .if1 .left))
     (used-of (a .set) (a .set .r) (a .j) (got .name) _ (s .pre .1) (s .pre .2) (u .is-used .ensures) ∙ c .if2 .left))
 
 pub output-field-spec : {M : Type 1} → statement M
 output-field-spec =
     tie.close
     (tie.spec
-    read-name-requires
+    spell-requires
     denied-output-requires
     returns
     is-used-requires

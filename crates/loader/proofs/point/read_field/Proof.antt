@@ -3,7 +3,7 @@ use mathlib.Core.Path.{sym, _∙_, ap}
 use lib.Dec.{lit≤}
 use denote.Ref.{now}
 use borrow.Author.Tests.{not-true, not-false}
-use Rattle.shape.specs.NameRead.{nameRead}
+use Rattle.shape.specs.Spelling.{spelling}
 use Rattle.loader.proofs.LoadLaws.{used-of, rest-of, read-bad, read-unnamed, read-used, read-good}
 use borrow.Author.Needs.{needs}
 use Rattle.loader.proofs.point.read_field.Statement.{statement}
@@ -27,17 +27,17 @@ denied-read-requires c κs = search needs
 enum-known-told : tie.Need-enum-known-told
 enum-known-told c = search needs
 
-sub-read-name : tie.Need-sub-read-name
-sub-read-name c = search needs
+sub-spell : tie.Need-sub-spell
+sub-spell c = search needs
 
-part-read-name-start : tie.Need-part-read-name-start
-part-read-name-start c = search needs
+part-spell-start : tie.Need-part-spell-start
+part-spell-start c = search needs
 
-part-read-name-end : tie.Need-part-read-name-end
-part-read-name-end c = search needs
+part-spell-end : tie.Need-part-spell-end
+part-spell-end c = search needs
 
-read-name-requires : tie.Need-read-name-requires
-read-name-requires c κs = search needs
+spell-requires : tie.Need-spell-requires
+spell-requires c κs = search needs
 
 denied-read-requires-2 : tie.Need-denied-read-requires-2
 denied-read-requires-2 c κs = search needs
@@ -48,11 +48,11 @@ returns c =
     let k = n .before .before .before in
     let s = k .before .before .before .before .before .before in
     let a = s .args in
-    let got = n .read-name .result in
+    let got = n .spell .result in
     c .denied-read2 .ensures
     ∙ sym
     (read-unnamed (now (a .body)) (a .set) (a .i) (k .told .given .0 .0) (sym (k .before .before .kind-of .ensures) ∙ k .told .given .1) got
-    (n .read-name .ensures ∙ ap nameRead (rest-of 2 (now (a .body)))) (not-true (got .good) (c .before .if1 .taken)))
+    (n .spell .ensures ∙ ap spelling (rest-of 2 (now (a .body)))) (not-true (got .good) (c .before .if1 .taken)))
 
 is-used-requires : tie.Need-is-used-requires
 is-used-requires c κs = search needs
@@ -67,11 +67,11 @@ returns-2 c =
     let k = n .before .before .before in
     let s = k .before .before .before .before .before .before in
     let a = s .args in
-    let got = n .read-name .result in
+    let got = n .spell .result in
     c .denied-read3 .ensures
     ∙ sym
     (read-used (now (a .body)) (a .set) (a .i) (k .told .given .0 .0) (sym (k .before .before .kind-of .ensures) ∙ k .told .given .1) got
-    (n .read-name .ensures ∙ ap nameRead (rest-of 2 (now (a .body)))) (not-false (got .good) (u .before .before .if1 .left))
+    (n .spell .ensures ∙ ap spelling (rest-of 2 (now (a .body)))) (not-false (got .good) (u .before .before .if1 .left))
     (used-of (a .set) (a .i) 0 (got .name) _ (s .pre .2) (lit≤ tt) (u .is-used .ensures) ∙ c .before .if2 .taken))
 
 returns-3 : tie.Need-returns-3
@@ -86,10 +86,10 @@ returns-4 c =
     let k = n .before .before .before in
     let s = k .before .before .before .before .before .before in
     let a = s .args in
-    let got = n .read-name .result in
+    let got = n .spell .result in
     sym
     (read-good (now (a .body)) (a .set) (a .i) (k .told .given .0 .0) (sym (k .before .before .kind-of .ensures) ∙ k .told .given .1) got
-    (n .read-name .ensures ∙ ap nameRead (rest-of 2 (now (a .body)))) (not-false (got .good) (u .before .before .if1 .left))
+    (n .spell .ensures ∙ ap spelling (rest-of 2 (now (a .body)))) (not-false (got .good) (u .before .before .if1 .left))
     (used-of (a .set) (a .i) 0 (got .name) _ (s .pre .2) (lit≤ tt) (u .is-used .ensures) ∙ c .if2 .left))
 
 pub read-field-spec : {M : Type 1} → statement M
@@ -102,10 +102,10 @@ read-field-spec =
     enum-told
     denied-read-requires
     enum-known-told
-    sub-read-name
-    part-read-name-start
-    part-read-name-end
-    read-name-requires
+    sub-spell
+    part-spell-start
+    part-spell-end
+    spell-requires
     denied-read-requires-2
     returns
     is-used-requires

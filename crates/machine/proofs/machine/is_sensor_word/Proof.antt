@@ -23,7 +23,7 @@ unfolding sensorOk
 returns c =
     let p = c .before in
     let a = p .before .before .args in
-    c .both .ensures ∙ ap₂ (λ (b : Bool) (x : ℕ). b && eqb (bitAnd (a .now) x) 0) (p .before .fits32 .ensures) (p .past-points .ensures)
+    c .both .ensures ∙ ap₂ (λ (b : Bool) (x : ℕ). b && eqb (bitAnd (a .present) x) 0) (p .before .fits32 .ensures) (p .past-points .ensures)
 
 pub is-sensor-word-spec : {M : Type 1} → statement M
 is-sensor-word-spec =

@@ -11,10 +11,10 @@ use Rattle.machine.proofs.past.read_word.Statement.{statement}
 use Rattle.machine.proofs.past.read_word.Tie as tie
 
 abbrev Inv-loop : tie.InvT-loop
-Inv-loop output sensor now s r w₀ k₀ w k = (k ≤ r) × (w ≡ word k (readingAt s output sensor now))
+Inv-loop output sensor present s r w₀ k₀ w k = (k ≤ r) × (w ≡ word k (readingAt s output sensor present))
 
 abbrev μ-loop : tie.MeasureT-loop
-μ-loop output sensor now s r w₀ k₀ w k = r - k
+μ-loop output sensor present s r w₀ k₀ w k = r - k
 
 loop-holds : tie.Need-loop-holds Inv-loop μ-loop
 loop-holds c = (omega arith, word-none _)
@@ -54,7 +54,7 @@ returns : tie.Need-returns Inv-loop μ-loop
 unfolding readWord
 returns c =
     let a = c .before .before .args in
-    c .before .loop .inv .1 ∙ ap (λ (k : ℕ). word k (readingAt (a .t1) (a .output) (a .sensor) (a .now))) (omega arith)
+    c .before .loop .inv .1 ∙ ap (λ (k : ℕ). word k (readingAt (a .t1) (a .output) (a .sensor) (a .present))) (omega arith)
 
 pub read-word-spec : {M : Type 1} → statement M
 read-word-spec =

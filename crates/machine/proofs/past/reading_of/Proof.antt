@@ -33,25 +33,25 @@ bit32-requires-2 : tie.Need-bit32-requires-2
 bit32-requires-2 c κs = search needs
 
 -- what a read point reads, where its kind is known
-by-kind : (output sensor now k : ℕ) {x y : Kind} {r : Bool} → x ≡ y → r ≡ reading output sensor now k x → r ≡ reading output sensor now k y
-by-kind output sensor now k e told = told ∙ ap (reading output sensor now k) e
+by-kind : (output sensor present k : ℕ) {x y : Kind} {r : Bool} → x ≡ y → r ≡ reading output sensor present k x → r ≡ reading output sensor present k y
+by-kind output sensor present k e told = told ∙ ap (reading output sensor present k) e
 
 returns : tie.Need-returns
 returns c =
     let a = c .before .before .before .args in
-    by-kind (a .output) (a .sensor) (a .now) (a .k) (sym (c .before .enum-told .given .1)) (c .bit32 .ensures)
+    by-kind (a .output) (a .sensor) (a .present) (a .k) (sym (c .before .enum-told .given .1)) (c .bit32 .ensures)
 
 returns-2 : tie.Need-returns-2
 returns-2 c =
     let k = c .before .before in
     let a = k .before .before .args in
-    by-kind (a .output) (a .sensor) (a .now) (a .k) (sym (k .kind .given .1)) (c .bit16 .ensures)
+    by-kind (a .output) (a .sensor) (a .present) (a .k) (sym (k .kind .given .1)) (c .bit16 .ensures)
 
 returns-3 : tie.Need-returns-3
 returns-3 c =
     let k = c .before .before in
     let a = k .before .before .args in
-    by-kind (a .output) (a .sensor) (a .now) (a .k) (sym (k .kind2 .given .1)) (c .bit322 .ensures)
+    by-kind (a .output) (a .sensor) (a .present) (a .k) (sym (k .kind2 .given .1)) (c .bit322 .ensures)
 
 pub reading-of-spec : {M : Type 1} → statement M
 reading-of-spec =

@@ -5,14 +5,15 @@ use Rattle.scan.specs.declared.set.ReadPoint.{ReadPoint}
 use Rattle.scan.specs.declared.set.OutputPoint.{OutputPoint}
 use Rattle.scan.specs.declared.set.Constraint.{Constraint}
 use Rattle.scan.specs.declared.set.Set.{Set}
-use Rattle.scan.specs.Set.{mostReads, mostOutputs, mostConstraints, zeroRead, zeroOutput, zeroConstraint, zeroSet}
+use Rattle.scan.specs.Set.{mostReads, mostOutputs, mostConstraints, zeroRead, zeroOutput, zeroConstraint, zeroSet, withReads, withOutputs, withConstraints}
 use borrow.Author.Needs.{needs}
 use Rattle.scan.proofs.set.zero_set.Statement.{statement}
 use Rattle.scan.proofs.set.zero_set.Tie as tie
 
 -- a set of no points and constraints, of one element in every place
 abbrev full : ReadPoint → OutputPoint → Constraint → Set
-full p q c = record { r = 0; n = 0; m = 0; reads = replicate mostReads p; outputs = replicate mostOutputs q; constraints = replicate mostConstraints c }
+full p q c =
+    withConstraints (withOutputs (withReads zeroSet (replicate mostReads p)) (replicate mostOutputs q)) (replicate mostConstraints c)
 
 filled : (p : ReadPoint) (q : OutputPoint) (c : Constraint) → p ≡ zeroRead → q ≡ zeroOutput → c ≡ zeroConstraint → full p q c ≡ zeroSet
 unfolding zeroSet
@@ -28,6 +29,7 @@ zero-constraint-requires : tie.Need-zero-constraint-requires
 zero-constraint-requires c κs = search needs
 
 returns : tie.Need-returns
+unfolding zeroSet
 returns c =
     filled (c .before .before .zero-read .result) (c .before .zero-output .result) (c .zero-constraint .result) (c .before .before .zero-read .ensures)
     (c .before .zero-output .ensures) (c .zero-constraint .ensures)

@@ -2,13 +2,14 @@
 use mathlib.Core.Path.{ap₂}
 use Prim.Native.Nat.{ℕ}
 use Rattle.scan.specs.declared.set.Set.{Set}
+use Rattle.scan.specs.Set.{withCounts}
 use borrow.Author.Needs.{needs}
 use Rattle.scan.proofs.table.cap.Statement.{statement}
 use Rattle.scan.proofs.table.cap.Tie as tie
 
 -- the set with other counts of outputs and constraints
 abbrev counted : Set → ℕ → ℕ → Set
-counted s n m = record { r = s .r; n = n; m = m; reads = s .reads; outputs = s .outputs; constraints = s .constraints }
+counted s n m = withCounts s (s .r) n m
 
 least-requires : tie.Need-least-requires
 least-requires c κs = search needs

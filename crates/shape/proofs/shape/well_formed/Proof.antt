@@ -31,11 +31,11 @@ few-reads c = let s = c .before .before .args .set in counts-told (s .r) (s .n) 
 are-counts-ok-requires : tie.Need-are-counts-ok-requires
 are-counts-ok-requires c κs = search needs
 
-read-names-requires : tie.Need-read-names-requires
-read-names-requires c κs = search needs
+names-of-reads-requires : tie.Need-names-of-reads-requires
+names-of-reads-requires c κs = search needs
 
-output-names-requires : tie.Need-output-names-requires
-output-names-requires c κs = search needs
+names-of-outputs-requires : tie.Need-names-of-outputs-requires
+names-of-outputs-requires c κs = search needs
 
 are-reads-ok-requires : tie.Need-are-reads-ok-requires
 are-reads-ok-requires c κs = search needs
@@ -66,7 +66,7 @@ returns c =
     set-tests s (p .are-reads-ok .result) (o .are-outputs-ok .result) (k .are-constraints-ok .result) (b .both .result) (c .both2 .result)
     (counted t) (long-reads z) (long-outputs z) (long-constraints z) (p .are-reads-ok .ensures)
     (o .are-outputs-ok .ensures
-    ∙ by-outputs (n .read-names .result) (s .reads) (n .read-names .ensures) (w .output-names .result) (s .outputs) (w .output-names .ensures) (s .r) (s .n) (few-reads t))
+    ∙ by-outputs (n .names-of-reads .result) (s .reads) (n .names-of-reads .ensures) (w .names-of-outputs .result) (s .outputs) (w .names-of-outputs .ensures) (s .r) (s .n) (few-reads t))
     (k .are-constraints-ok .ensures) (b .both .ensures) (c .both2 .ensures)
 
 returns-2 : tie.Need-returns-2
@@ -77,8 +77,8 @@ well-formed-spec =
     tie.close
     (tie.spec
     are-counts-ok-requires
-    read-names-requires
-    output-names-requires
+    names-of-reads-requires
+    names-of-outputs-requires
     are-reads-ok-requires
     are-outputs-ok-requires
     are-constraints-ok-requires

@@ -1,14 +1,14 @@
--- `shape::names::read_name` meets its contract. Assumes nothing.
+-- `shape::names::spell` meets its contract. Assumes nothing.
 use mathlib.Core.Path.{sym, ap, _∙_}
 use mathlib.Core.Bool.{true}
 use mathlib.Core.List.{List}
 use Prim.Native.Nat.{ℕ}
 use denote.Ref.{now}
 use borrow.Author.Tests.{not-true, not-false}
-use Rattle.shape.proofs.NameReadLaws.{spell-empty, spell-long, spell-strange, spell-name}
+use Rattle.shape.proofs.SpellingLaws.{spell-empty, spell-long, spell-strange, spell-name}
 use borrow.Author.Needs.{needs}
-use Rattle.shape.proofs.names.read_name.Statement.{statement}
-use Rattle.shape.proofs.names.read_name.Tie as tie
+use Rattle.shape.proofs.names.spell.Statement.{statement}
+use Rattle.shape.proofs.names.spell.Tie as tie
 
 no-name-requires : tie.Need-no-name-requires
 no-name-requires c κs = search needs
@@ -44,8 +44,8 @@ returns-4 c =
     ap (λ (name : List ℕ). record { good = true; name = name }) (c .pad .ensures)
     ∙ spell-name (now (e .before .before .before .args .bytes)) (e .before .if1 .left) (e .if2 .left) (sym (n .are-name-bytes .ensures) ∙ not-false _ (c .before .if3 .left))
 
-pub read-name-spec : {M : Type 1} → statement M
-read-name-spec =
+pub spell-spec : {M : Type 1} → statement M
+spell-spec =
     tie.close
     (tie.spec
     no-name-requires

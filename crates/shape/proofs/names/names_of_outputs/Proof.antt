@@ -1,12 +1,12 @@
--- `shape::names::output_names` meets its contract. The loop's invariant: the names before k are in place. Assumes nothing.
+-- `shape::names::names_of_outputs` meets its contract. The loop's invariant: the names before k are in place. Assumes nothing.
 use mathlib.Core.Path.{refl}
 use Prim.Native.Nat.{ℕ, _-_}
 use lib.ListN.{replicate}
 use Rattle.scan.specs.Set.{outputPoint, zeroName}
 use Rattle.shape.proofs.NamesWayLaws.{Placed, placed-none, placed-one, placed-all}
 use borrow.Author.Needs.{needs}
-use Rattle.shape.proofs.names.output_names.Statement.{statement}
-use Rattle.shape.proofs.names.output_names.Tie as tie
+use Rattle.shape.proofs.names.names_of_outputs.Statement.{statement}
+use Rattle.shape.proofs.names.names_of_outputs.Tie as tie
 
 abbrev Inv-loop : tie.InvT-loop
 Inv-loop outputs names₀ k₀ names k = Placed 12 (λ (j : ℕ). outputPoint outputs j .name) names k
@@ -46,8 +46,8 @@ returns c =
     let l = c .before .loop in
     placed-all 12 (λ (j : ℕ). outputPoint (c .before .before .args .t1) j .name) (l .names) (l .k) (l .inv) (c .loop-test .left)
 
-pub output-names-spec : {M : Type 1} → statement M
-output-names-spec =
+pub names-of-outputs-spec : {M : Type 1} → statement M
+names-of-outputs-spec =
     tie.close
     (tie.spec
     Inv-loop

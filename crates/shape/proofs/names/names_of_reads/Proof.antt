@@ -1,12 +1,12 @@
--- `shape::names::read_names` meets its contract. The loop's invariant: the names before k are in place. Assumes nothing.
+-- `shape::names::names_of_reads` meets its contract. The loop's invariant: the names before k are in place. Assumes nothing.
 use mathlib.Core.Path.{refl}
 use Prim.Native.Nat.{ℕ, _-_}
 use lib.ListN.{replicate}
 use Rattle.scan.specs.Set.{readPoint, zeroName}
 use Rattle.shape.proofs.NamesWayLaws.{Placed, placed-none, placed-one, placed-all}
 use borrow.Author.Needs.{needs}
-use Rattle.shape.proofs.names.read_names.Statement.{statement}
-use Rattle.shape.proofs.names.read_names.Tie as tie
+use Rattle.shape.proofs.names.names_of_reads.Statement.{statement}
+use Rattle.shape.proofs.names.names_of_reads.Tie as tie
 
 abbrev Inv-loop : tie.InvT-loop
 Inv-loop reads names₀ k₀ names k = Placed 16 (λ (j : ℕ). readPoint reads j .name) names k
@@ -46,8 +46,8 @@ returns c =
     let l = c .before .loop in
     placed-all 16 (λ (j : ℕ). readPoint (c .before .before .args .t1) j .name) (l .names) (l .k) (l .inv) (c .loop-test .left)
 
-pub read-names-spec : {M : Type 1} → statement M
-read-names-spec =
+pub names-of-reads-spec : {M : Type 1} → statement M
+names-of-reads-spec =
     tie.close
     (tie.spec
     Inv-loop
