@@ -4,12 +4,16 @@ mod hand; // sets and states made by hand
 
 use loader::LoadAnswer;
 use machine::ScanAnswer;
+use scan::MOST_OUTPUTS;
+use scan::MOST_READS;
+use scan::NAME_PLACES;
 use scan::Set;
 use scan::State;
 use shape::Found;
 use verdict::Verdict;
 use writer::Written;
 ghost use Prim.Native.Nat.{_<_, _≤_};
+ghost use Rattle.scan.specs.Set.{namePlaces};
 
 // The most pairs of records that are read.
 const MOST_PAIRS: u32 = 100000;
@@ -86,22 +90,22 @@ fn print_written(set: Set, file: &[u8]) {
 }
 
 // How many bytes stand before the first zero.
-fn name_length(name: [u8; 8]) -> usize
-    ensures { λ r. ⌜ r ≤ 8 ⌝ }
+fn name_length(name: [u8; NAME_PLACES]) -> usize
+    ensures { λ r. ⌜ r ≤ namePlaces ⌝ }
 {
     let mut k: usize = 0;
-    while k < 8 {
+    while k < NAME_PLACES {
         if name[k] == 0 {
             return k;
         }
         k = k + 1;
     }
-    8
+    NAME_PLACES
 }
 
-fn print_found(set: Set, name: [u8; 8]) {
+fn print_found(set: Set, name: [u8; NAME_PLACES]) {
     let n = name_length(name);
-    if n <= 8 {
+    if n <= NAME_PLACES {
         let found = shape::find(set, &name[0..n]);
         match found {
             Found::Read(k) => {
@@ -128,7 +132,7 @@ fn print_found(set: Set, name: [u8; 8]) {
 fn print_reads(set: Set) {
     let r = set.r;
     let mut k: usize = 0;
-    while k < 16 {
+    while k < MOST_READS {
         if k < r {
             let p = set.reads[k];
             let name = p.name;
@@ -141,7 +145,7 @@ fn print_reads(set: Set) {
 fn print_outputs(set: Set) {
     let n = set.n;
     let mut k: usize = 0;
-    while k < 12 {
+    while k < MOST_OUTPUTS {
         if k < n {
             let p = set.outputs[k];
             let name = p.name;

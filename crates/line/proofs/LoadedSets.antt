@@ -3,9 +3,9 @@
 use mathlib.Core.Path.{_≡_}
 use mathlib.Core.Bool.{true}
 use mathlib.Core.List.{List}
-use Prim.Native.Nat.{ℕ, _^_, _≤_}
+use Prim.Native.Nat.{ℕ, _≤_}
 use native.Mathlib.Omega.{arith}
-use lib.Pow.{pow-mono}
+use Rattle.scan.specs.Set.{mostOutputs}
 use Rattle.scan.specs.Shape.{wellFormed}
 use Rattle.scan.proofs.ShapeLaws.{counts}
 use Rattle.header.specs.Bytes.{Bytes}
@@ -14,10 +14,11 @@ use Rattle.loader.specs.Load.{loadOf}
 use Rattle.setfile.proofs.WriteLoaded.{write-loaded}
 use Rattle.verdict.specs.Judge.{judgeOf}
 use Rattle.verdict.specs.Meaning.{Means}
+use Rattle.verdict.proofs.JudgeLaws.{scratch-is, scratch-mono}
 use Rattle.verdict.proofs.MeaningLaws.{verdict-means}
 
 pub loaded-judged : (file : List ℕ) (room : ℕ) → Bytes file → 4096 ≤ room → loadOf file .answer ≡ Loaded → Means (loadOf file .set) (judgeOf (loadOf file .set) room)
 loaded-judged file room bytes enough loaded =
     let ok : wellFormed (loadOf file .set) ≡ true = write-loaded file bytes loaded .1 in
-    let few : 2 ^ loadOf file .set .n ≤ 2 ^ 12 = pow-mono (counts (loadOf file .set) ok .n-le) in
-    verdict-means (loadOf file .set) ok room (omega arith)
+    let few = scratch-mono (loadOf file .set .n) mostOutputs (counts (loadOf file .set) ok .n-le) in
+    verdict-means (loadOf file .set) ok room (omega (arith, few, scratch-is mostOutputs))

@@ -14,6 +14,7 @@ ghost use mathlib.Core.Path.{_≡_};
 ghost use mathlib.Core.Bool.{true};
 ghost use Prim.Native.Nat.{_≤_};
 ghost use Rattle.words.specs.Loop.{word};
+ghost use Rattle.scan.specs.Set.{mostReads};
 ghost use Rattle.scan.specs.Shape.{wellFormed};
 ghost use Rattle.scan.specs.Walk.{walk};
 ghost use Rattle.machine.specs.Machine.{stateOk, isPast, sensorOk, scanOf};
@@ -35,7 +36,7 @@ pub struct Scanned {
 
 // The read points that are no sensors.
 fn past_points(s: Set) -> u32
-    requires { ⌜ s .r ≤ 16 ⌝ }
+    requires { ⌜ s .r ≤ mostReads ⌝ }
     ensures { λ r. ⌜ r ≡ word (s .r) (isPast s) ⌝ }
 {
     let r = s.r;
@@ -52,7 +53,7 @@ fn past_points(s: Set) -> u32
 
 // Whether the word has bits only at sensors.
 fn is_sensor_word(s: Set, present: u32) -> bool
-    requires { ⌜ s .r ≤ 16 ⌝ }
+    requires { ⌜ s .r ≤ mostReads ⌝ }
     ensures { λ r. ⌜ r ≡ sensorOk s present ⌝ }
 {
     let r = s.r;
@@ -80,7 +81,7 @@ fn walk_from(s: Set, w: u32, request: u16) -> Walk
     ensures { λ r. ⌜ r ≡ walk s w request ⌝ }
 {
     let t = build(s, w);
-    walk_over(t, start_vector(t.f0, t.f1, request), t.limit)
+    walk_over(t, start_vector(t.holds.f0, t.holds.f1, request), t.limit)
 }
 
 fn refuse(st: State, answer: ScanAnswer) -> Scanned

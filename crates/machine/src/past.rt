@@ -4,6 +4,7 @@ use scan::Kind;
 use scan::Set;
 ghost use mathlib.Core.Path.{_≡_};
 ghost use Prim.Native.Nat.{_≤_};
+ghost use Rattle.scan.specs.Set.{mostReads};
 ghost use Rattle.machine.specs.Past.{reading, readWord};
 
 // What a read point of this kind, at bit k, reads.
@@ -17,8 +18,9 @@ fn reading_of(output: u16, sensor: u32, present: u32, k: usize, kind: Kind) -> b
     }
 }
 
+// The read word: the sensor word `present`, with past points filled from the past output word and the past sensor word.
 pub fn read_word(s: Set, output: u16, sensor: u32, present: u32) -> u32
-    requires { ⌜ s .r ≤ 16 ⌝ }
+    requires { ⌜ s .r ≤ mostReads ⌝ }
     ensures { λ r. ⌜ r ≡ readWord s output sensor present ⌝ }
 {
     let r = s.r;

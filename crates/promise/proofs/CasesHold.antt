@@ -7,7 +7,7 @@ use Rattle.words.specs.Loop.{gather, bitIf, word, some, all, firstFrom, first}
 use Rattle.scan.specs.Set.{zeroSet, constraint, kind}
 use Rattle.scan.specs.Names.{nameByte, allNameBytes, nameLength, placeOk, nameOk, nameZero, sameName, readNamed, firstRead, outputNamed, firstOutput}
 use Rattle.scan.specs.Shape.{countTests, lengthTests, kindOk, readOk, readZero, readPlace, outputOk, outputPlace, rankOk, constraintTests, constraintZero, constraintPlace, setTests, wellFormed}
-use Rattle.scan.specs.Constraint.{readsTrue, outsTrue, isTrue, simple, combined, trueAt, safe}
+use Rattle.scan.specs.Constraint.{readsTrue, outsTrue, isTrue, simple, combined, trueAt, safe, hasVector}
 use Rattle.scan.specs.Holds.{holding, toZero, toOne, F0, F1, unheldBy, unheld, unheldCount, startFrom, startVector}
 use Rattle.scan.specs.Pass.{lowest, hasRank, yielding, yields, fires, flips, pass}
 use Rattle.scan.specs.Walk.{walkBy, walk}
@@ -15,22 +15,36 @@ use Rattle.shape.specs.Finding.{findPadded, findOf}
 use Rattle.machine.specs.Past.{readingAt, readWord}
 use Rattle.machine.specs.Machine.{stateOk, isPast, sensorOk, requestOk, scanOf}
 use Rattle.machine.specs.History.{run}
-use Rattle.verdict.specs.Judge.{hasVector, endless, fails, rejectionBy, rejection, verdictAt, judgeWords, judgeOf}
+use Rattle.verdict.specs.Judge.{endless, fails, rejectionBy, rejection, verdictAt, judgeWords, scratchBytes, judgeOf}
 use Rattle.start.specs.Start.{startOf}
 use Rattle.promise.specs.Cases.{AllAnswered, starred, further, scanCases, findCases}
 
 pub starred-hold : AllAnswered starred
-unfolding onesIn odd bit without meets popcount gather bitIf word some all firstFrom first zeroSet constraint kind nameByte nameLength placeOk nameOk nameZero sameName readNamed firstRead outputNamed firstOutput countTests lengthTests kindOk readOk readZero readPlace outputOk outputPlace rankOk constraintTests constraintZero constraintPlace setTests wellFormed readsTrue outsTrue isTrue simple combined trueAt safe holding toZero toOne F0 F1 unheldBy unheld unheldCount startFrom startVector lowest hasRank yielding yields fires flips pass walkBy walk readingAt readWord stateOk isPast sensorOk requestOk scanOf run hasVector endless fails rejectionBy rejection verdictAt judgeWords judgeOf startOf
+unfolding onesIn odd bit without meets popcount gather bitIf word some all firstFrom first zeroSet constraint kind nameByte nameLength placeOk nameOk
+    nameZero sameName readNamed firstRead outputNamed firstOutput countTests lengthTests kindOk readOk readZero readPlace outputOk outputPlace rankOk
+    constraintTests constraintZero constraintPlace setTests wellFormed readsTrue outsTrue isTrue simple combined trueAt safe holding toZero toOne F0
+    F1 unheldBy unheld unheldCount startFrom startVector lowest hasRank yielding yields fires flips pass walkBy walk readingAt readWord stateOk isPast
+    sensorOk requestOk scanOf run hasVector endless fails rejectionBy rejection verdictAt judgeWords scratchBytes judgeOf startOf
 starred-hold = refl
 
 pub further-hold : AllAnswered further
-unfolding onesIn odd bit without meets popcount gather bitIf word some all firstFrom first zeroSet constraint kind nameByte nameLength placeOk nameOk nameZero sameName readNamed firstRead outputNamed firstOutput countTests lengthTests kindOk readOk readZero readPlace outputOk outputPlace rankOk constraintTests constraintZero constraintPlace setTests wellFormed readsTrue outsTrue isTrue simple combined trueAt safe holding toZero toOne F0 F1 unheldBy unheld unheldCount startFrom startVector lowest hasRank yielding yields fires flips pass walkBy walk readingAt readWord stateOk isPast sensorOk requestOk scanOf run hasVector endless fails rejectionBy rejection verdictAt judgeWords judgeOf startOf
+unfolding onesIn odd bit without meets popcount gather bitIf word some all firstFrom first zeroSet constraint kind nameByte nameLength placeOk nameOk
+    nameZero sameName readNamed firstRead outputNamed firstOutput countTests lengthTests kindOk readOk readZero readPlace outputOk outputPlace rankOk
+    constraintTests constraintZero constraintPlace setTests wellFormed readsTrue outsTrue isTrue simple combined trueAt safe holding toZero toOne F0
+    F1 unheldBy unheld unheldCount startFrom startVector lowest hasRank yielding yields fires flips pass walkBy walk readingAt readWord stateOk isPast
+    sensorOk requestOk scanOf run hasVector endless fails rejectionBy rejection verdictAt judgeWords scratchBytes judgeOf startOf
 further-hold = refl
 
 pub scans-worked : AllAnswered scanCases
-unfolding onesIn odd bit without meets popcount gather bitIf word some all firstFrom first zeroSet constraint kind nameByte allNameBytes nameLength placeOk nameOk nameZero sameName readNamed firstRead outputNamed firstOutput countTests lengthTests kindOk readOk readZero readPlace outputOk outputPlace rankOk constraintTests constraintZero constraintPlace setTests wellFormed readsTrue outsTrue isTrue simple combined trueAt safe holding toZero toOne F0 F1 unheldBy unheld unheldCount startFrom startVector lowest hasRank yielding yields fires flips pass walkBy walk readingAt readWord stateOk isPast sensorOk requestOk scanOf run
+unfolding onesIn odd bit without meets popcount gather bitIf word some all firstFrom first zeroSet constraint kind nameByte allNameBytes nameLength
+    placeOk nameOk nameZero sameName readNamed firstRead outputNamed firstOutput countTests lengthTests kindOk readOk readZero readPlace outputOk
+    outputPlace rankOk constraintTests constraintZero constraintPlace setTests wellFormed readsTrue outsTrue isTrue simple combined trueAt safe
+    holding toZero toOne F0 F1 unheldBy unheld unheldCount startFrom startVector lowest hasRank yielding yields fires flips pass walkBy walk readingAt
+    readWord stateOk isPast sensorOk requestOk scanOf run
 scans-worked = refl
 
 pub finds-worked : AllAnswered findCases
-unfolding odd bit some all firstFrom first zeroSet constraint nameByte allNameBytes nameLength placeOk nameOk nameZero sameName readNamed firstRead outputNamed firstOutput countTests lengthTests kindOk readOk readZero readPlace outputOk outputPlace rankOk constraintTests constraintZero constraintPlace setTests wellFormed findPadded findOf
+unfolding odd bit some all firstFrom first zeroSet constraint nameByte allNameBytes nameLength placeOk nameOk nameZero sameName readNamed firstRead
+    outputNamed firstOutput countTests lengthTests kindOk readOk readZero readPlace outputOk outputPlace rankOk constraintTests constraintZero
+    constraintPlace setTests wellFormed findPadded findOf
 finds-worked = refl

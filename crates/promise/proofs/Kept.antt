@@ -18,6 +18,7 @@ use Rattle.scan.specs.Walk.{passesDue}
 use Rattle.machine.specs.Told.{scanTold}
 use Rattle.machine.proofs.MachineLaws.{sends-due, scan-answers, scan-keeps-set}
 use Rattle.verdict.specs.Judge.{judgeOf}
+use Rattle.verdict.proofs.JudgeLaws.{scratch-is}
 use Rattle.start.specs.Start.{startOf}
 use Rattle.loader.specs.declared.loader.Loaded.{Loaded}
 use Rattle.header.specs.Bytes.{Bytes}
@@ -56,6 +57,7 @@ demand-1 = record {
   loading = load-refusals;
   writing = write-refusals;
   verdict = verdict-refusals;
+  scratch = scratch-is;
   scan = scan-refusals;
   finding = find-refusals;
   formed = formed;

@@ -20,7 +20,7 @@ use Rattle.machine.specs.History.{Call, allowed, run, runState, stateAfter, pas
 use Rattle.machine.proofs.HistoryLaws.{all-right, list-state}
 use Rattle.verdict.specs.declared.verdict.Verdict.{Verdict}
 use Rattle.verdict.specs.declared.verdict.Verdict.the-variants.{Accepted, BadSet, ShortScratch, NoVector, NoEnd}
-use Rattle.verdict.specs.Judge.{judgeOf}
+use Rattle.verdict.specs.Judge.{scratchBytes, judgeOf}
 use Rattle.start.specs.Start.{startState, startOf}
 use Rattle.verdict.specs.Told.{verdictTold}
 use Rattle.verdict.specs.Meaning.{Good, Means}
@@ -55,7 +55,7 @@ told-request (NoEnd u h) w g e = cc
 
 -- ---- the verdict
 
-module _ (s : Set) (room : ℕ) (ok : wellFormed s ≡ true) (enough : 2 ^ s .n ≤ room) where
+module _ (s : Set) (room : ℕ) (ok : wellFormed s ≡ true) (enough : scratchBytes (s .n) ≤ room) where
   means : (v : Verdict) → judgeOf s room ≡ v → Means s v
   means v e = subst (Means s) e (verdict-means s ok room enough)
 
@@ -99,10 +99,10 @@ accepted-formed s room e = by-test (wellFormed s) (λ q. q) (λ q. absurd (never
     never : BadSet ≡ Accepted → ⊥
     never q = let z : _≡_ {A = ℕ} 0 1 = cc in omega arith
 
-accepted-enough : (s : Set) (room : ℕ) → judgeOf s room ≡ Accepted → 2 ^ s .n ≤ room
+accepted-enough : (s : Set) (room : ℕ) → judgeOf s room ≡ Accepted → scratchBytes (s .n) ≤ room
 accepted-enough s room e =
-    by-test (ltb room (2 ^ s .n)) (λ q. absurd (never (short-scratch s room (accepted-formed s room e) (borrow.Author.Tests.ltb-true room (2 ^ s .n) q) ∙ e)))
-    (λ q. ltb-false room (2 ^ s .n) q)
+    by-test (ltb room (scratchBytes (s .n))) (λ q. absurd (never (short-scratch s room (accepted-formed s room e) (borrow.Author.Tests.ltb-true room (scratchBytes (s .n)) q) ∙ e)))
+    (λ q. ltb-false room (scratchBytes (s .n)) q)
   where
     never : ShortScratch ≡ Accepted → ⊥
     never q = let z : _≡_ {A = ℕ} 0 1 = cc in omega arith

@@ -13,7 +13,7 @@ use Rattle.scan.specs.declared.set.Set.{Set}
 use Rattle.scan.specs.Shape.{wellFormed}
 use Rattle.verdict.specs.declared.verdict.Verdict.{Verdict}
 use Rattle.verdict.specs.declared.verdict.Verdict.the-variants.{Accepted, BadSet as SetRejected, ShortScratch, NoVector, NoEnd}
-use Rattle.verdict.specs.Judge.{judgeOf}
+use Rattle.verdict.specs.Judge.{scratchBytes, judgeOf}
 use Rattle.verdict.specs.Told.{verdictTold}
 use Rattle.verdict.specs.Meaning.{Means}
 use Rattle.verdict.proofs.MeaningLaws.{verdict-means}
@@ -26,11 +26,11 @@ module _ (s : Set) (room : ℕ) where
   judge-bad : wellFormed s ≡ false → verdictTold (judgeOf s room) ≡ 20 ∷ []
   judge-bad e = ap verdictTold (sym (bad-set s room e))
 
-  judge-short : wellFormed s ≡ true → room < 2 ^ s .n → verdictTold (judgeOf s room) ≡ 21 ∷ []
+  judge-short : wellFormed s ≡ true → room < scratchBytes (s .n) → verdictTold (judgeOf s room) ≡ 21 ∷ []
   judge-short ok h = ap verdictTold (sym (short-scratch s room ok h))
 
   -- with a well-formed set and scratch enough the verdict is neither
-  judge-neither : wellFormed s ≡ true → 2 ^ s .n ≤ room → (verdictTold (judgeOf s room) ≢ 20 ∷ []) × (verdictTold (judgeOf s room) ≢ 21 ∷ [])
+  judge-neither : wellFormed s ≡ true → scratchBytes (s .n) ≤ room → (verdictTold (judgeOf s room) ≢ 20 ∷ []) × (verdictTold (judgeOf s room) ≢ 21 ∷ [])
   judge-neither ok h = go (judgeOf s room) (verdict-means s ok room h)
     where
       go : (v : Verdict) → Means s v → (verdictTold v ≢ 20 ∷ []) × (verdictTold v ≢ 21 ∷ [])
@@ -40,9 +40,9 @@ module _ (s : Set) (room : ℕ) where
       go SetRejected m = absurd m
       go ShortScratch m = absurd m
 
-  by-judge : {C : Type 0} → (wellFormed s ≡ false → C) → (wellFormed s ≡ true → room < 2 ^ s .n → C) → (wellFormed s ≡ true → 2 ^ s .n ≤ room → C) → C
+  by-judge : {C : Type 0} → (wellFormed s ≡ false → C) → (wellFormed s ≡ true → room < scratchBytes (s .n) → C) → (wellFormed s ≡ true → scratchBytes (s .n) ≤ room → C) → C
   by-judge bad short fits =
-      by-test (wellFormed s) (λ ok. by-test (ltb room (2 ^ s .n)) (λ t. short ok (ltb-true _ _ t)) (λ t. fits ok (ltb-false _ _ t))) bad
+      by-test (wellFormed s) (λ ok. by-test (ltb room (scratchBytes (s .n))) (λ t. short ok (ltb-true _ _ t)) (λ t. fits ok (ltb-false _ _ t))) bad
 
   pub verdict-refusals : VerdictRefusals s room
   verdict-refusals = record {
@@ -58,6 +58,6 @@ module _ (s : Set) (room : ℕ) where
     loose = loose s room;
   }
     where
-      fine : wellFormed s ≡ true → 2 ^ s .n ≤ room → (wellFormed s ≡ false) ⊎ (room < 2 ^ s .n) → ⊥
+      fine : wellFormed s ≡ true → scratchBytes (s .n) ≤ room → (wellFormed s ≡ false) ⊎ (room < scratchBytes (s .n)) → ⊥
       fine ok h (inl b) = clash ok b
       fine ok h (inr l) = omega arith

@@ -21,7 +21,7 @@ use Rattle.machine.specs.Machine.{scanOf}
 use Rattle.machine.specs.Told.{scanTold}
 use Rattle.shape.specs.Told.{findTold}
 use Rattle.machine.specs.History.{Call, Sends, run, runState, followed, stateAfter, AllRight}
-use Rattle.verdict.specs.Judge.{judgeOf, looseBytes}
+use Rattle.verdict.specs.Judge.{scratchBytes, judgeOf, looseBytes}
 use Rattle.start.specs.Start.{startOf}
 use Rattle.verdict.specs.Told.{verdictTold}
 use Rattle.verdict.specs.Meaning.{Good, FirstWithout, FirstEndless, Bad}
@@ -65,10 +65,10 @@ pub record WriteRefusals (s : Set) (buf : List ℕ) : Type 0 where
 -- The verdict on any set, with scratch of any size. What else it rejects is demand 3's; the start says the same, with its state.
 pub record VerdictRefusals (s : Set) (room : ℕ) : Type 0 where
   pub not-formed : (verdictTold (judgeOf s room) ≡ 20 ∷ []) ↔ (wellFormed s ≡ false)
-  pub short : (verdictTold (judgeOf s room) ≡ 21 ∷ []) ↔ ((wellFormed s ≡ true) × (room < 2 ^ s .n))
-  -- with 20 and 21 no byte of the scratch is free, else the first 2 ^ n are
-  pub untouched : (wellFormed s ≡ false) ⊎ (room < 2 ^ s .n) → looseBytes s room ≡ 0
-  pub loose : wellFormed s ≡ true → 2 ^ s .n ≤ room → looseBytes s room ≡ 2 ^ s .n
+  pub short : (verdictTold (judgeOf s room) ≡ 21 ∷ []) ↔ ((wellFormed s ≡ true) × (room < scratchBytes (s .n)))
+  -- with 20 and 21 no byte of the scratch is free, else those that the verdict needs are
+  pub untouched : (wellFormed s ≡ false) ⊎ (room < scratchBytes (s .n)) → looseBytes s room ≡ 0
+  pub loose : wellFormed s ≡ true → scratchBytes (s .n) ≤ room → looseBytes s room ≡ scratchBytes (s .n)
 
 -- A scan of any state, with any words.
 pub record ScanRefusals (st : State) (present request : ℕ) : Type 0 where
@@ -101,6 +101,8 @@ pub record Demand1 : Type 0 where
   pub loading : (file : List ℕ) → LoadRefusals file
   pub writing : (s : Set) (buf : List ℕ) → WriteRefusals s buf
   pub verdict : (s : Set) (room : ℕ) → VerdictRefusals s room
+  -- the scratch that a verdict needs: a byte for each of the 2 ^ n vectors
+  pub scratch : (n : ℕ) → scratchBytes n ≡ 2 ^ n
   pub scan : (st : State) (present request : ℕ) → ScanRefusals st present request
   pub finding : (s : Set) (bytes : List ℕ) → FindRefusals s bytes
   -- a set is well formed exactly when some file of bytes loads to it, and the set with every field zero is not
@@ -171,6 +173,6 @@ pub record RightScans (s : Set) (room : ℕ) (calls : List Call) : Type 0 where
 
 -- Demand 3.
 pub record Demand3 : Type 0 where
-  pub verdict : (s : Set) (room : ℕ) → wellFormed s ≡ true → 2 ^ s .n ≤ room → ExactVerdict s room
+  pub verdict : (s : Set) (room : ℕ) → wellFormed s ≡ true → scratchBytes (s .n) ≤ room → ExactVerdict s room
   pub start : (s : Set) (room : ℕ) → ExactStart s room
   pub scans : (s : Set) (room : ℕ) → verdictTold (startOf s room .verdict) ≡ 0 ∷ [] → (calls : List Call) → RightScans s room calls

@@ -14,11 +14,11 @@ use Rattle.words.proofs.BitLaws.{bit-and, bit-or, bit-zero, bit-below, bits-mee
 use Rattle.words.proofs.BoolLaws.{clash, or-left, or-right}
 use Rattle.words.proofs.PopcountLaws.{one-set, none-zero}
 use Rattle.scan.specs.declared.set.Constraint.{Constraint}
-use Rattle.scan.specs.Set.{outs}
+use Rattle.scan.specs.Set.{mostOutputs, outs}
 use Rattle.scan.specs.Constraint.{outsTrue, simple, combined}
 use Rattle.scan.proofs.ShapeLaws.{Masks, outs-lt}
 
-module _ (r n : ℕ) (c : Constraint) (n-le : n ≤ 12) (ms : Masks r n c) where
+module _ (r n : ℕ) (c : Constraint) (n-le : n ≤ mostOutputs) (ms : Masks r n c) where
   below : (k : ℕ) → bit k (outs c) ≡ true → k < 16
   below k e = omega (arith, bit-below n k (outs c) (outs-lt r n c ms) e)
 

@@ -6,5 +6,6 @@ pub mod PassLaws
 pub mod ConstraintLaws
 pub mod SafeLaws
 pub mod WalkLaws
+pub mod SameDue
 pub mod TableLaws
 pub mod LoneRanks

@@ -14,24 +14,25 @@ use borrow.Author.Tests.{eq-eqb, ne-eqb, eqb-true, leb-true, lt-ltb, le-ltb, ltb
 use Rattle.words.specs.Loop.{first, all}
 use Rattle.words.proofs.BoolLaws.{and-true, cond-true, cond-false, every-at}
 use Rattle.words.proofs.LoopLaws.{all-true, all-at, first-is, first-none, first-spec}
+use Rattle.scan.specs.Set.{namePlaces}
 use Rattle.scan.specs.Names.{nameByte, allNameBytes, padded, zeroAt, nameLength, nameBytes, placeOk, nameOk, sameAt, sameName}
 
 -- eight places, of which the first 1 to 8 are name bytes
 pub record NameFormed (name : List ℕ) : Type 0 where
-  pub long : length name ≡ 8
+  pub long : length name ≡ namePlaces
   pub some : 0 < nameLength name
-  pub few : nameLength name ≤ 8
-  pub places : (k : ℕ) → k < 8 → placeOk name k ≡ true
+  pub few : nameLength name ≤ namePlaces
+  pub places : (k : ℕ) → k < namePlaces → placeOk name k ≡ true
 
 pub name-formed : (name : List ℕ) → nameOk name ≡ true → NameFormed name
 unfolding nameOk nameLength
 name-formed name e =
-    let tests = eqb (length name) 8 ∷ ltb 0 (nameLength name) ∷ all 8 (placeOk name) ∷ [] in
+    let tests = eqb (length name) namePlaces ∷ ltb 0 (nameLength name) ∷ all namePlaces (placeOk name) ∷ [] in
     record {
-      long = eqb-true (length name) 8 (every-at tests e 0);
+      long = eqb-true (length name) namePlaces (every-at tests e 0);
       some = ltb-true 0 (nameLength name) (every-at tests e 1);
-      few = first-spec 8 (zeroAt name) .within;
-      places = all-at 8 (placeOk name) (every-at tests e 2);
+      few = first-spec namePlaces (zeroAt name) .within;
+      places = all-at namePlaces (placeOk name) (every-at tests e 2);
     }
 
 -- ---- comparing
@@ -43,13 +44,13 @@ byte-same b = eq-eqb b b refl
 -- A name is the same as itself.
 pub name-same : (a : List ℕ) → sameName a a ≡ true
 unfolding sameName
-name-same a = all-true 8 (sameAt a a) (λ k h. simp byte-same)
+name-same a = all-true namePlaces (sameAt a a) (λ k h. simp byte-same)
 
 -- Names of eight places that compare as the same are equal.
-pub same-name : (a b : List ℕ) → length a ≡ 8 → length b ≡ 8 → sameName a b ≡ true → a ≡ b
+pub same-name : (a b : List ℕ) → length a ≡ namePlaces → length b ≡ namePlaces → sameName a b ≡ true → a ≡ b
 unfolding sameName
 same-name a b la lb e =
-    ext-getD 0 a b (la ∙ sym lb) (λ k h. eqb-true (getD a k 0) (getD b k 0) (all-at 8 (sameAt a b) e k (omega arith)))
+    ext-getD 0 a b (la ∙ sym lb) (λ k h. eqb-true (getD a k 0) (getD b k 0) (all-at namePlaces (sameAt a b) e k (omega arith)))
 
 -- ---- places and bytes
 
@@ -81,7 +82,7 @@ module _ (name : List ℕ) (formed : NameFormed name) where
       cond-true (ltb k (nameLength name)) (nameByte (getD name k 0)) (zeroAt name k) (lt-ltb k (nameLength name) h) ∙ formed .places k (omega arith)
 
   -- after it a zero
-  zero-outside : (k : ℕ) → nameLength name ≤ k → k < 8 → getD name k 0 ≡ 0
+  zero-outside : (k : ℕ) → nameLength name ≤ k → k < namePlaces → getD name k 0 ≡ 0
   unfolding placeOk
   zero-outside k h l =
       eqb-true (getD name k 0) 0
@@ -106,41 +107,41 @@ module _ (name : List ℕ) (formed : NameFormed name) where
       let long = formed .long in
       let few = formed .few in
       let n = nameLength name in
-      let rest : length (drop n name) ≡ 8 - n = length-drop n name ∙ ap (λ (k : ℕ). k - n) long in
-      let same = zeros (drop n name) (8 - n) rest (λ k h. getD-drop n name k 0 ∙ zero-outside (n + k) (omega arith) (omega arith)) in
-      ap (λ (k : ℕ). take n name ++ replicate (8 - k) 0) bytes-long ∙ ap (λ (l : List ℕ). take n name ++ l) same ∙ take-append-drop n name
+      let rest : length (drop n name) ≡ namePlaces - n = length-drop n name ∙ ap (λ (k : ℕ). k - n) long in
+      let same = zeros (drop n name) (namePlaces - n) rest (λ k h. getD-drop n name k 0 ∙ zero-outside (n + k) (omega arith) (omega arith)) in
+      ap (λ (k : ℕ). take n name ++ replicate (namePlaces - k) 0) bytes-long ∙ ap (λ (l : List ℕ). take n name ++ l) same ∙ take-append-drop n name
 
 -- Padding the bytes of a name gives the name.
 pub padded-bytes : (name : List ℕ) → nameOk name ≡ true → padded (nameBytes name) ≡ name
 padded-bytes name e = bytes-fill name (name-formed name e)
 
-module _ (bytes : List ℕ) (named : allNameBytes bytes ≡ true) (few : length bytes ≤ 8) where
+module _ (bytes : List ℕ) (named : allNameBytes bytes ≡ true) (few : length bytes ≤ namePlaces) where
   -- padding gives eight places
-  pub padded-long : length (padded bytes) ≡ 8
-  padded-long = length-append bytes (replicate (8 - length bytes) 0) ∙ ap (λ (k : ℕ). length bytes + k) (length-replicate (8 - length bytes) 0) ∙ omega arith
+  pub padded-long : length (padded bytes) ≡ namePlaces
+  padded-long = length-append bytes (replicate (namePlaces - length bytes) 0) ∙ ap (λ (k : ℕ). length bytes + k) (length-replicate (namePlaces - length bytes) 0) ∙ omega arith
 
   -- the bytes stand before the first zero
   none-before : (k : ℕ) → k < length bytes → zeroAt (padded bytes) k ≡ false
   unfolding allNameBytes
   none-before k h =
-      ap (λ (b : ℕ). eqb b 0) (List·getD-append bytes (replicate (8 - length bytes) 0) 0 k h)
+      ap (λ (b : ℕ). eqb b 0) (List·getD-append bytes (replicate (namePlaces - length bytes) 0) 0 k h)
       ∙ byte-positive (getD bytes k 0) (all-at (length bytes) (λ j. nameByte (getD bytes j 0)) named k h)
 
   -- the padded name ends where the bytes do
   pub length-padded : nameLength (padded bytes) ≡ length bytes
   unfolding nameLength
-  length-padded = go (decLe 8 (length bytes))
+  length-padded = go (decLe namePlaces (length bytes))
     where
-      go : Dec (8 ≤ length bytes) → first 8 (zeroAt (padded bytes)) ≡ length bytes
-      go (yes h) = first-none 8 (zeroAt (padded bytes)) (λ k l. none-before k (omega arith)) ∙ omega arith
+      go : Dec (namePlaces ≤ length bytes) → first namePlaces (zeroAt (padded bytes)) ≡ length bytes
+      go (yes h) = first-none namePlaces (zeroAt (padded bytes)) (λ k l. none-before k (omega arith)) ∙ omega arith
       go (no h) =
-          first-is 8 (length bytes) (zeroAt (padded bytes)) (omega arith)
+          first-is namePlaces (length bytes) (zeroAt (padded bytes)) (omega arith)
           (eq-eqb (getD (padded bytes) (length bytes) 0) 0
-          (ap (λ (k : ℕ). getD (padded bytes) k 0) (omega arith) ∙ getD-append-add bytes (replicate (8 - length bytes) 0) 0 0 ∙ zero-first (8 - length bytes)))
+          (ap (λ (k : ℕ). getD (padded bytes) k 0) (omega arith) ∙ getD-append-add bytes (replicate (namePlaces - length bytes) 0) 0 0 ∙ zero-first (namePlaces - length bytes)))
           none-before
 
 -- The bytes of the name that padding gives are the bytes padded.
-pub bytes-padded : (bytes : List ℕ) → allNameBytes bytes ≡ true → length bytes ≤ 8 → nameBytes (padded bytes) ≡ bytes
+pub bytes-padded : (bytes : List ℕ) → allNameBytes bytes ≡ true → length bytes ≤ namePlaces → nameBytes (padded bytes) ≡ bytes
 unfolding nameBytes
 bytes-padded bytes named few =
-    ap (λ (k : ℕ). take k (padded bytes)) (length-padded bytes named few) ∙ take-append-seam bytes (replicate (8 - length bytes) 0)
+    ap (λ (k : ℕ). take k (padded bytes)) (length-padded bytes named few) ∙ take-append-seam bytes (replicate (namePlaces - length bytes) 0)

@@ -16,7 +16,7 @@ use Rattle.words.proofs.BoolLaws.{every-at, and-true, cond-true, cond-false, an
 use Rattle.words.proofs.LoopLaws.{all-at}
 use Rattle.scan.specs.declared.set.Constraint.{Constraint}
 use Rattle.scan.specs.declared.set.Set.{Set}
-use Rattle.scan.specs.Set.{constraint, rank, outs, readPoint, outputPoint}
+use Rattle.scan.specs.Set.{mostReads, mostOutputs, mostPoints, mostConstraints, constraint, rank, outs, readPoint, outputPoint}
 use Rattle.scan.specs.Shape.{countTests, lengthTests, rankOk, constraintTests, constraintZero, constraintPlace, setTests, wellFormed, kindOk, readOk, readZero, readPlace, outputOk, outputPlace}
 use Rattle.scan.specs.declared.set.ReadPoint.{ReadPoint}
 use Rattle.scan.specs.declared.set.OutputPoint.{OutputPoint}
@@ -25,11 +25,11 @@ use Rattle.scan.specs.Names.{nameOk, nameZero, firstRead, firstOutput}
 -- ---- counts
 
 pub record Counts (s : Set) : Type 0 where
-  pub r-le : s .r ≤ 16
+  pub r-le : s .r ≤ mostReads
   pub n-pos : 1 ≤ s .n
-  pub n-le : s .n ≤ 12
-  pub sum-le : s .r + s .n ≤ 24
-  pub m-le : s .m ≤ 64
+  pub n-le : s .n ≤ mostOutputs
+  pub sum-le : s .r + s .n ≤ mostPoints
+  pub m-le : s .m ≤ mostConstraints
 
 pub counts-ok : (s : Set) → every (countTests (s .r) (s .n) (s .m)) ≡ true → Counts s
 unfolding countTests
@@ -39,27 +39,27 @@ counts-ok s e =
 
 -- the tests of the counts, by the way that the code's tests went
 module _ (r n m : ℕ) where
-  pub counts-rest : (x y : Bool) → r ≤ 16 → n ≤ 12 → x ≡ (leb (r + n) 24 && leb m 64) → y ≡ (leb 1 n && x) → y ≡ every (countTests r n m)
+  pub counts-rest : (x y : Bool) → r ≤ mostReads → n ≤ mostOutputs → x ≡ (leb (r + n) mostPoints && leb m mostConstraints) → y ≡ (leb 1 n && x) → y ≡ every (countTests r n m)
   unfolding countTests
   counts-rest x y hr hn ex ey =
-      three (leb 1 n) (leb (r + n) 24) (leb m 64) (leb 1 n) (leb (r + n) 24) (leb m 64) x y refl refl refl ex ey
-      ∙ ap₂ (λ (a c : Bool). a && (leb 1 n && (c && (leb (r + n) 24 && (leb m 64 && true))))) (sym (le-leb r 16 hr)) (sym (le-leb n 12 hn))
+      three (leb 1 n) (leb (r + n) mostPoints) (leb m mostConstraints) (leb 1 n) (leb (r + n) mostPoints) (leb m mostConstraints) x y refl refl refl ex ey
+      ∙ ap₂ (λ (a c : Bool). a && (leb 1 n && (c && (leb (r + n) mostPoints && (leb m mostConstraints && true))))) (sym (le-leb r mostReads hr)) (sym (le-leb n mostOutputs hn))
 
-  pub many-reads : 16 < r → false ≡ every (countTests r n m)
+  pub many-reads : mostReads < r → false ≡ every (countTests r n m)
   unfolding countTests
-  many-reads h = ap (λ (a : Bool). a && (leb 1 n && (leb n 12 && (leb (r + n) 24 && (leb m 64 && true))))) (sym (lt-leb r 16 h))
+  many-reads h = ap (λ (a : Bool). a && (leb 1 n && (leb n mostOutputs && (leb (r + n) mostPoints && (leb m mostConstraints && true))))) (sym (lt-leb r mostReads h))
 
-  pub many-outputs : 12 < n → false ≡ every (countTests r n m)
+  pub many-outputs : mostOutputs < n → false ≡ every (countTests r n m)
   unfolding countTests
   many-outputs h =
       sym
-      (and-false (leb r 16) _ (and-false (leb 1 n) (leb n 12 && (leb (r + n) 24 && (leb m 64 && true)))
-      (ap (λ (c : Bool). c && (leb (r + n) 24 && (leb m 64 && true))) (lt-leb n 12 h))))
+      (and-false (leb r mostReads) _ (and-false (leb 1 n) (leb n mostOutputs && (leb (r + n) mostPoints && (leb m mostConstraints && true)))
+      (ap (λ (c : Bool). c && (leb (r + n) mostPoints && (leb m mostConstraints && true))) (lt-leb n mostOutputs h))))
 
   -- what the counts' tests tell
-  pub counts-told : every (countTests r n m) ≡ true → (r ≤ 16) × (n ≤ 12)
+  pub counts-told : every (countTests r n m) ≡ true → (r ≤ mostReads) × (n ≤ mostOutputs)
   unfolding countTests
-  counts-told e = (leb-true r 16 (every-at (countTests r n m) e 0), leb-true n 12 (every-at (countTests r n m) e 2))
+  counts-told e = (leb-true r mostReads (every-at (countTests r n m) e 0), leb-true n mostOutputs (every-at (countTests r n m) e 2))
 
 -- ---- constraints
 
@@ -72,8 +72,8 @@ pub record Masks (r n : ℕ) (c : Constraint) : Type 0 where
   pub out-negated : c .«out_negated» < 2 ^ n
   pub out-once : bitAnd (c .«out_plain») (c .«out_negated») ≡ 0
   pub has-out : 0 < outs c
-  pub ranks-long : length (c .ranks) ≡ 12
-  pub ranks-ok : (k : ℕ) → k < 12 → rankOk c k ≡ true
+  pub ranks-long : length (c .ranks) ≡ mostOutputs
+  pub ranks-ok : (k : ℕ) → k < mostOutputs → rankOk c k ≡ true
 
 pub constraint-masks : (r n : ℕ) (c : Constraint) → every (constraintTests r n c) ≡ true → Masks r n c
 unfolding constraintTests
@@ -88,7 +88,7 @@ constraint-masks r n c e =
       out-once = eqb-true _ _ (t 5);
       has-out = ltb-true _ _ (t 6);
       ranks-long = eqb-true _ _ (t 7);
-      ranks-ok = all-at 12 (rankOk c) (t 8);
+      ranks-ok = all-at mostOutputs (rankOk c) (t 8);
     }
 
 -- a rank is below 256
@@ -107,7 +107,7 @@ module _ (s : Set) (ok : wellFormed s ≡ true) where
   unfolding wellFormed setTests
   counts = counts-ok s (every-at (setTests s) ok 0)
 
-  pub lengths : (length (s .reads) ≡ 16) × (length (s .outputs) ≡ 12) × (length (s .constraints) ≡ 64)
+  pub lengths : (length (s .reads) ≡ mostReads) × (length (s .outputs) ≡ mostOutputs) × (length (s .constraints) ≡ mostConstraints)
   unfolding wellFormed setTests lengthTests
   lengths =
       let t = every-at (lengthTests s) (every-at (setTests s) ok 1) in
@@ -117,19 +117,19 @@ module _ (s : Set) (ok : wellFormed s ≡ true) where
   pub constraint-ok : (i : ℕ) → i < s .m → every (constraintTests (s .r) (s .n) (constraint s i)) ≡ true
   unfolding wellFormed setTests constraintPlace
   constraint-ok i h =
-      let within : i < 64 = omega (arith, counts .m-le) in
+      let within : i < mostConstraints = omega (arith, counts .m-le) in
       sym (ap (λ (b : Bool). cond b (every (constraintTests (s .r) (s .n) (constraint s i))) (constraintZero (constraint s i))) (lt-ltb i (s .m) h))
-      ∙ all-at 64 (constraintPlace s) (every-at (setTests s) ok 4) i within
+      ∙ all-at mostConstraints (constraintPlace s) (every-at (setTests s) ok 4) i within
 
   pub masks : (i : ℕ) → i < s .m → Masks (s .r) (s .n) (constraint s i)
   masks i h = constraint-masks (s .r) (s .n) (constraint s i) (constraint-ok i h)
 
   -- a constraint beyond the count is zero
-  pub beyond-zero : (i : ℕ) → s .m ≤ i → i < 64 → constraintZero (constraint s i) ≡ true
+  pub beyond-zero : (i : ℕ) → s .m ≤ i → i < mostConstraints → constraintZero (constraint s i) ≡ true
   unfolding wellFormed setTests constraintPlace
   beyond-zero i l h =
       sym (ap (λ (b : Bool). cond b (every (constraintTests (s .r) (s .n) (constraint s i))) (constraintZero (constraint s i))) (le-ltb i (s .m) l))
-      ∙ all-at 64 (constraintPlace s) (every-at (setTests s) ok 4) i h
+      ∙ all-at mostConstraints (constraintPlace s) (every-at (setTests s) ok 4) i h
 
   -- a word of n bits has sixteen
   pub wide : (x : ℕ) → x < 2 ^ s .n → x < 2 ^ 16
@@ -137,7 +137,7 @@ module _ (s : Set) (ok : wellFormed s ≡ true) where
 
 module _ (s : Set) where
   -- what a well-formed set's counts are
-  pub formed-counts : wellFormed s ≡ true → (s .r ≤ 16) × (s .n ≤ 12)
+  pub formed-counts : wellFormed s ≡ true → (s .r ≤ mostReads) × (s .n ≤ mostOutputs)
   unfolding wellFormed setTests
   formed-counts e = counts-told (s .r) (s .n) (s .m) (every-at (setTests s) e 0)
 
@@ -176,42 +176,42 @@ output-formed reads r outputs j e =
 -- ---- all points
 
 pub record PointsFormed (s : Set) : Type 0 where
-  pub reads-long : length (s .reads) ≡ 16
-  pub outputs-long : length (s .outputs) ≡ 12
-  pub constraints-long : length (s .constraints) ≡ 64
-  pub reads-few : s .r ≤ 16
-  pub outputs-few : s .n ≤ 12
+  pub reads-long : length (s .reads) ≡ mostReads
+  pub outputs-long : length (s .outputs) ≡ mostOutputs
+  pub constraints-long : length (s .constraints) ≡ mostConstraints
+  pub reads-few : s .r ≤ mostReads
+  pub outputs-few : s .n ≤ mostOutputs
   pub read-ok : (k : ℕ) → k < s .r → readOk (s .reads) (s .n) k ≡ true
-  pub read-zero : (k : ℕ) → s .r ≤ k → k < 16 → readZero (readPoint (s .reads) k) ≡ true
+  pub read-zero : (k : ℕ) → s .r ≤ k → k < mostReads → readZero (readPoint (s .reads) k) ≡ true
   pub output-ok : (j : ℕ) → j < s .n → outputOk (s .reads) (s .r) (s .outputs) j ≡ true
-  pub output-zero : (j : ℕ) → s .n ≤ j → j < 12 → nameZero (outputPoint (s .outputs) j .name) ≡ true
+  pub output-zero : (j : ℕ) → s .n ≤ j → j < mostOutputs → nameZero (outputPoint (s .outputs) j .name) ≡ true
 
 module _ (s : Set) where
-  read-used : all 16 (readPlace (s .reads) (s .r) (s .n)) ≡ true → s .r ≤ 16 → (k : ℕ) → k < s .r → readOk (s .reads) (s .n) k ≡ true
+  read-used : all mostReads (readPlace (s .reads) (s .r) (s .n)) ≡ true → s .r ≤ mostReads → (k : ℕ) → k < s .r → readOk (s .reads) (s .n) k ≡ true
   unfolding readPlace
   read-used e few k h =
       cond-true (ltb k (s .r)) (readOk (s .reads) (s .n) k) (readZero (readPoint (s .reads) k)) (lt-ltb k (s .r) h)
-      ∙ all-at 16 (readPlace (s .reads) (s .r) (s .n)) e k (omega arith)
+      ∙ all-at mostReads (readPlace (s .reads) (s .r) (s .n)) e k (omega arith)
 
-  read-beyond : all 16 (readPlace (s .reads) (s .r) (s .n)) ≡ true → (k : ℕ) → s .r ≤ k → k < 16 → readZero (readPoint (s .reads) k) ≡ true
+  read-beyond : all mostReads (readPlace (s .reads) (s .r) (s .n)) ≡ true → (k : ℕ) → s .r ≤ k → k < mostReads → readZero (readPoint (s .reads) k) ≡ true
   unfolding readPlace
   read-beyond e k h l =
       cond-false (ltb k (s .r)) (readOk (s .reads) (s .n) k) (readZero (readPoint (s .reads) k)) (le-ltb k (s .r) h)
-      ∙ all-at 16 (readPlace (s .reads) (s .r) (s .n)) e k l
+      ∙ all-at mostReads (readPlace (s .reads) (s .r) (s .n)) e k l
 
-  output-used : all 12 (outputPlace (s .reads) (s .r) (s .outputs) (s .n)) ≡ true → s .n ≤ 12 → (j : ℕ) → j < s .n
+  output-used : all mostOutputs (outputPlace (s .reads) (s .r) (s .outputs) (s .n)) ≡ true → s .n ≤ mostOutputs → (j : ℕ) → j < s .n
       → outputOk (s .reads) (s .r) (s .outputs) j ≡ true
   unfolding outputPlace
   output-used e few j h =
       cond-true (ltb j (s .n)) (outputOk (s .reads) (s .r) (s .outputs) j) (nameZero (outputPoint (s .outputs) j .name)) (lt-ltb j (s .n) h)
-      ∙ all-at 12 (outputPlace (s .reads) (s .r) (s .outputs) (s .n)) e j (omega arith)
+      ∙ all-at mostOutputs (outputPlace (s .reads) (s .r) (s .outputs) (s .n)) e j (omega arith)
 
-  output-beyond : all 12 (outputPlace (s .reads) (s .r) (s .outputs) (s .n)) ≡ true → (j : ℕ) → s .n ≤ j → j < 12
+  output-beyond : all mostOutputs (outputPlace (s .reads) (s .r) (s .outputs) (s .n)) ≡ true → (j : ℕ) → s .n ≤ j → j < mostOutputs
       → nameZero (outputPoint (s .outputs) j .name) ≡ true
   unfolding outputPlace
   output-beyond e j h l =
       cond-false (ltb j (s .n)) (outputOk (s .reads) (s .r) (s .outputs) j) (nameZero (outputPoint (s .outputs) j .name)) (le-ltb j (s .n) h)
-      ∙ all-at 12 (outputPlace (s .reads) (s .r) (s .outputs) (s .n)) e j l
+      ∙ all-at mostOutputs (outputPlace (s .reads) (s .r) (s .outputs) (s .n)) e j l
 
   pub points-formed : wellFormed s ≡ true → PointsFormed s
   unfolding wellFormed setTests lengthTests
@@ -221,9 +221,9 @@ module _ (s : Set) where
       let outputs = every-at (setTests s) e 3 in
       let few = formed-counts s e in
       record {
-        reads-long = eqb-true (length (s .reads)) 16 (lengths 0);
-        outputs-long = eqb-true (length (s .outputs)) 12 (lengths 1);
-        constraints-long = eqb-true (length (s .constraints)) 64 (lengths 2);
+        reads-long = eqb-true (length (s .reads)) mostReads (lengths 0);
+        outputs-long = eqb-true (length (s .outputs)) mostOutputs (lengths 1);
+        constraints-long = eqb-true (length (s .constraints)) mostConstraints (lengths 2);
         reads-few = few .0;
         outputs-few = few .1;
         read-ok = read-used reads (few .0);

@@ -19,14 +19,15 @@ use Rattle.words.proofs.LoopLaws.{gather-cong, some-cong}
 use Rattle.words.proofs.LoopTurns.{gather-none, gather-more, some-none, some-more}
 use Rattle.scan.specs.declared.set.Constraint.{Constraint}
 use Rattle.scan.specs.declared.set.Set.{Set}
+use Rattle.scan.specs.declared.holds.Holds.{Holds}
 use Rattle.scan.specs.declared.table.Table.{Table}
-use Rattle.scan.specs.declared.walk.Walk.{Walk}
-use Rattle.scan.specs.Set.{withCounts, constraint, outs}
+use Rattle.scan.specs.Set.{mostOutputs, mostConstraints, withCounts, constraint, outs}
 use Rattle.scan.specs.Shape.{wellFormed}
 use Rattle.scan.specs.Constraint.{readsTrue, outsTrue, isTrue, combined, safe}
-use Rattle.scan.specs.Holds.{F0, F1, passLimit, startFrom, startVector}
+use Rattle.scan.specs.Holds.{passLimit, startFrom, startVector}
+use Rattle.scan.specs.way.Holds.{holdsOf}
 use Rattle.scan.specs.Pass.{yields, fires, flips, pass}
-use Rattle.scan.specs.way.Table.{capped, active, emptyTable, withEntry, tableUpto, tableOf, entryTrue, entryFlips, passOver, anyTrue, safeOver}
+use Rattle.scan.specs.way.Table.{capped, active, emptyTable, withEntry, tableUpto, tableOf, entryTrue, entryFlips, flipsOver, passOver, anyTrue, safeOver, safeIn, passIn, walkIn}
 use Rattle.scan.specs.Walk.{walkBy, walk}
 use Rattle.scan.proofs.ShapeLaws.{counts, masks, wide}
 use Rattle.scan.proofs.SafeLaws.{safe-table}
@@ -66,22 +67,20 @@ upto-ind s w (suc i) P none on off =
 
 -- ---- its form
 
--- the holds are the set's, and the lists have 64 places
+-- the holds are the set's, and the lists have a place for each constraint
 pub record Formed (s : Set) (w : ℕ) (t : Table) : Type 0 where
-  pub f0-is : t .f0 ≡ F0 s w
-  pub f1-is : t .f1 ≡ F1 s w
+  pub holds-is : t .holds ≡ holdsOf s w
   pub limit-is : t .limit ≡ passLimit s w
-  pub plain-places : length (t .plain) ≡ 64
-  pub named-places : length (t .named) ≡ 64
-  pub flip-places : length (t .flip) ≡ 64
+  pub plain-places : length (t .plain) ≡ mostConstraints
+  pub named-places : length (t .named) ≡ mostConstraints
+  pub flip-places : length (t .flip) ≡ mostConstraints
 
 pub upto-formed : (s : Set) (w i : ℕ) → Formed s w (tableUpto s w i)
 upto-formed s w i =
     upto-ind s w i (λ (k : ℕ) (t : Table). Formed s w t)
-    (record { f0-is = refl; f1-is = refl; limit-is = refl; plain-places = refl; named-places = refl; flip-places = refl })
+    (record { holds-is = refl; limit-is = refl; plain-places = refl; named-places = refl; flip-places = refl })
     (λ k h f e. let t = tableUpto s w k in record {
-      f0-is = f .f0-is;
-      f1-is = f .f1-is;
+      holds-is = f .holds-is;
       limit-is = f .limit-is;
       plain-places = length-set (t .plain) (t .count) _ ∙ f .plain-places;
       named-places = length-set (t .named) (t .count) _ ∙ f .named-places;
@@ -128,7 +127,7 @@ passed-over s w i t so-far e = record {
   anys = λ v. some-more i _ ∙ ap₂ _||_ (so-far .anys v) (fires-by s w i v false e) ∙ or-false _;
 }
 
-module _ (s : Set) (w i : ℕ) (t : Table) (f : Formed s w t) (room : t .count < 64) (apart : Apart (constraint s i)) where
+module _ (s : Set) (w i : ℕ) (t : Table) (f : Formed s w t) (room : t .count < mostConstraints) (apart : Apart (constraint s i)) where
   -- the table with the constraint's entry
   abbrev more : Table
   more = withEntry (constraint s i) (yields s w i) t
@@ -165,7 +164,7 @@ module _ (s : Set) (w i : ℕ) (t : Table) (f : Formed s w t) (room : t .count <
         ∙ sym (some-more (t .count) _);
   }
 
-pub tells : (s : Set) (w i : ℕ) → i ≤ 64 → ((j : ℕ) → j < i → Apart (constraint s j)) → Tells s w i (tableUpto s w i)
+pub tells : (s : Set) (w i : ℕ) → i ≤ mostConstraints → ((j : ℕ) → j < i → Apart (constraint s j)) → Tells s w i (tableUpto s w i)
 tells s w i small apart =
     upto-ind s w i (Tells s w)
     (record { few = omega arith; flipped = λ v. sym (gather-none _) ∙ gather-none _; anys = λ v. some-none _ ∙ sym (some-none _) })
@@ -174,19 +173,8 @@ tells s w i small apart =
 
 -- ---- the whole table
 
-pub capped-formed : (s : Set) → s .n ≤ 12 → s .m ≤ 64 → capped s ≡ s
-capped-formed s hn hm =
-    ap₂ (λ (n m : ℕ). withCounts s (s .r) n m) (min-eq-left hn) (min-eq-left hm)
-
--- safety, a pass and the walk from a request, by a table
-abbrev pub safeIn : Table → ℕ → Bool
-safeIn t = safeOver (t .f0) (t .f1) (t .plain) (t .named) (t .count)
-
-abbrev pub passIn : Table → ℕ → ℕ
-passIn t = passOver (t .plain) (t .named) (t .flip) (t .count)
-
-abbrev pub walkIn : Table → ℕ → Walk
-walkIn t request = walkBy (safeIn t) (passIn t) (t .limit) (startFrom (t .f0) (t .f1) request) 0
+pub capped-formed : (s : Set) → s .n ≤ mostOutputs → s .m ≤ mostConstraints → capped s ≡ s
+capped-formed s hn hm = ap₂ (λ (n m : ℕ). withCounts s (s .r) n m) (min-eq-left hn) (min-eq-left hm)
 
 -- of a well-formed set: the table's safety, pass, start vector and pass limit are the set's, and so is the walk
 module _ (s : Set) (w : ℕ) (ok : wellFormed s ≡ true) where
@@ -206,18 +194,18 @@ module _ (s : Set) (w : ℕ) (ok : wellFormed s ≡ true) where
   table-tells = subst (Tells s w (s .m)) (sym table-is) (tells s w (s .m) (counts s ok .m-le) apart)
 
   -- the entries all fit
-  table-few : min (tableOf s w .count) 64 ≡ tableOf s w .count
-  table-few = min-eq-left {m = 64} (omega (arith, table-tells .few, counts s ok .m-le))
+  table-few : min (tableOf s w .count) mostConstraints ≡ tableOf s w .count
+  table-few = min-eq-left {m = mostConstraints} (omega (arith, table-tells .few, counts s ok .m-le))
 
   pub table-limit : tableOf s w .limit ≡ passLimit s w
   table-limit = table-formed .limit-is
 
-  pub table-start : (request : ℕ) → startFrom (tableOf s w .f0) (tableOf s w .f1) request ≡ startVector s w request
+  pub table-start : (request : ℕ) → startFrom (tableOf s w .holds .f0) (tableOf s w .holds .f1) request ≡ startVector s w request
   unfolding startVector
-  table-start request = ap₂ (λ (z o : ℕ). startFrom z o request) (table-formed .f0-is) (table-formed .f1-is)
+  table-start request = ap (λ (h : Holds). startFrom (h .f0) (h .f1) request) (table-formed .holds-is)
 
   pub table-pass : (v : ℕ) → passIn (tableOf s w) v ≡ pass s w v
-  unfolding passOver pass
+  unfolding flipsOver passOver pass
   table-pass v =
       let t = tableOf s w in
       ap (bitXor v) (ap (λ (k : ℕ). gather k (entryFlips (t .plain) (t .named) (t .flip) v)) table-few ∙ sym (table-tells .flipped v))
@@ -227,7 +215,7 @@ module _ (s : Set) (w : ℕ) (ok : wellFormed s ≡ true) where
   table-safe v =
       let t = tableOf s w in
       let anys = ap (λ (k : ℕ). some k (entryTrue (t .plain) (t .named) v)) table-few ∙ sym (table-tells .anys v) in
-      (λ i. meets (table-formed .f1-is i) (table-formed .f0-is i) v && not (anys i)) ∙ sym (safe-table s w v ok)
+      (λ i. meets (table-formed .holds-is i .f1) (table-formed .holds-is i .f0) v && not (anys i)) ∙ sym (safe-table s w v ok)
 
   pub table-walk : (request : ℕ) → walkIn (tableOf s w) request ≡ walk s w request
   unfolding walk

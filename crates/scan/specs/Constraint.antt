@@ -1,7 +1,8 @@
 -- Constraints: a product of literals, true when all are, at a read word w and an output vector v.
 -- Assumes nothing.
-use Prim.Native.Nat.{ℕ}
-use mathlib.Core.Bool.{Bool, not, _&&_}
+use mathlib.Core.Path.{_≡_}
+use Prim.Native.Nat.{ℕ, _^_, _<_}
+use mathlib.Core.Bool.{Bool, true, not, _&&_}
 use lib.Dec.{eqb, ltb}
 use Rattle.words.specs.Word.{meets, popcount}
 use Rattle.words.specs.Loop.{some}
@@ -36,3 +37,11 @@ trueAt s w v i = isTrue (constraint s i) w v
 -- a vector is safe: no constraint of the set, simple or combined, is true
 unfoldable pub safe : Set → ℕ → ℕ → Bool
 safe s w v = not (some (s .m) (trueAt s w v))
+
+-- one of the 2 ^ n vectors is safe at the read word w
+unfoldable pub hasVector : Set → ℕ → Bool
+hasVector s w = some (2 ^ s .n) (safe s w)
+
+-- some output vector leaves every constraint false
+abbrev pub HasSafe : Set → ℕ → Type 0
+HasSafe s w = (v : ℕ) × (v < 2 ^ s .n) × (safe s w v ≡ true)

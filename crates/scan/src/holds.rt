@@ -8,6 +8,7 @@ use choice::both;
 ghost use mathlib.Core.Path.{_≡_};
 ghost use mathlib.Core.Bool.{_&&_};
 ghost use Prim.Native.Nat.{_≤_, min};
+ghost use Rattle.scan.specs.Set.{mostOutputs, mostConstraints};
 ghost use Rattle.scan.specs.Constraint.{readsTrue, simple};
 ghost use Rattle.scan.specs.Holds.{unheldBy, startFrom};
 ghost use Rattle.scan.specs.way.Holds.{holdsOf, limitBy};
@@ -25,8 +26,9 @@ fn is_holding(c: Constraint, w: u32) -> bool
     both(is_simple(c), are_reads_true(c, w))
 }
 
+// The holds of the simple constraints at the read word w.
 pub fn hold(s: Set, w: u32) -> Holds
-    requires { ⌜ s .m ≤ 64 ⌝ }
+    requires { ⌜ s .m ≤ mostConstraints ⌝ }
     ensures { λ r. ⌜ r ≡ holdsOf s w ⌝ }
 {
     let m = s.m;
@@ -45,7 +47,7 @@ pub fn hold(s: Set, w: u32) -> Holds
 
 // Of n outputs those that are not held.
 pub fn unheld_of(n: usize, h: Holds) -> u16
-    requires { ⌜ n ≤ 12 ⌝ }
+    requires { ⌜ n ≤ mostOutputs ⌝ }
     ensures { λ r. ⌜ r ≡ unheldBy n (h .f0) (h .f1) ⌝ }
 {
     words::without16(words::low16(n), h.f0 | h.f1)

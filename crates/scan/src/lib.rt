@@ -7,6 +7,7 @@ mod pass; // which outputs of a constraint yield
 mod table; // a read word's table, and a pass and safety over it
 mod walk; // one pass after another while the vector is unsafe
 
+pub use holds::Holds;
 pub use holds::start_vector;
 pub use set::Constraint;
 pub use set::Kind;
@@ -22,6 +23,7 @@ pub use set::State;
 pub use set::zero_set;
 pub use table::Table;
 pub use table::build;
+pub use table::is_any_safe;
 pub use table::is_safe;
 pub use table::pass_over;
 pub use walk::Walk;

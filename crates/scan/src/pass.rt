@@ -7,6 +7,7 @@ use choice::both;
 ghost use mathlib.Core.Path.{_≡_};
 ghost use mathlib.Core.Bool.{cond};
 ghost use Prim.Native.Nat.{_≤_, _<_, _^_};
+ghost use Rattle.scan.specs.Set.{mostOutputs};
 ghost use Rattle.scan.specs.Pass.{lowest, hasRank, yielding};
 
 // Above every rank.
@@ -14,7 +15,7 @@ const NO_RANK: u16 = 256;
 
 // The lowest rank at the outputs of `own`, of n: 256 if there are none.
 fn lowest_rank(c: Constraint, own: u16, n: usize) -> u16
-    requires { ⌜ n ≤ 12 ⌝ }
+    requires { ⌜ n ≤ mostOutputs ⌝ }
     ensures { λ r. ⌜ r ≡ lowest c own n ⌝ }
 {
     let mut low: u16 = NO_RANK;
@@ -28,7 +29,7 @@ fn lowest_rank(c: Constraint, own: u16, n: usize) -> u16
 
 // The word of output k if it is one of `own` and its rank is `low`, else 0.
 fn yield_at(c: Constraint, own: u16, low: u16, k: usize) -> u16
-    requires { ⌜ k < 12 ⌝ }
+    requires { ⌜ k < mostOutputs ⌝ }
     ensures { λ r. ⌜ r ≡ cond (hasRank c own low k) (2 ^ k) 0 ⌝ }
 {
     keep16(
@@ -39,7 +40,7 @@ fn yield_at(c: Constraint, own: u16, low: u16, k: usize) -> u16
 
 // The outputs of `own`, of n, of the lowest rank among them.
 pub fn yielding_of(n: usize, c: Constraint, own: u16) -> u16
-    requires { ⌜ n ≤ 12 ⌝ }
+    requires { ⌜ n ≤ mostOutputs ⌝ }
     ensures { λ r. ⌜ r ≡ yielding n c own ⌝ }
 {
     let low = lowest_rank(c, own, n);

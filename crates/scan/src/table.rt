@@ -19,14 +19,15 @@ ghost use mathlib.Core.Bool.{cond};
 ghost use Prim.Native.Nat.{_≤_};
 ghost use lib.Dec.{eqb};
 ghost use lib.Bits.{bitAnd};
+ghost use Rattle.words.specs.Loop.{some};
+ghost use Rattle.scan.specs.Set.{mostOutputs, mostConstraints};
 ghost use Rattle.scan.specs.Holds.{unheld};
 ghost use Rattle.scan.specs.way.Holds.{holdsOf};
-ghost use Rattle.scan.specs.way.Table.{capped, active, tableUpto, tableOf, passOver, anyTrue, safeOver};
+ghost use Rattle.scan.specs.way.Table.{capped, active, tableUpto, tableOf, flipsOver, passOver, anyTrue, safeOver};
 
 // The entries below count: the outputs named plain, all the outputs named, and those that yield.
 pub struct Table {
-    pub f0: u16,
-    pub f1: u16,
+    pub holds: Holds,
     pub limit: u16,
     pub count: usize,
     pub plain: [u16; MOST_CONSTRAINTS],
@@ -55,7 +56,7 @@ fn is_active(c: Constraint, w: u32) -> bool
 
 // The table of a set whose counts are cut, given its holds and the mask of its unheld outputs at the read word w.
 fn fill(s: Set, w: u32, h: Holds, mask: u16) -> Table
-    requires { ⌜ (s .n ≤ 12) × (s .m ≤ 64) × (h ≡ holdsOf s w) × (mask ≡ unheld s w) ⌝ }
+    requires { ⌜ (s .n ≤ mostOutputs) × (s .m ≤ mostConstraints) × (h ≡ holdsOf s w) × (mask ≡ unheld s w) ⌝ }
     ensures { λ r. ⌜ r ≡ tableUpto s w (s .m) ⌝ }
 {
     let m = s.m;
@@ -77,8 +78,7 @@ fn fill(s: Set, w: u32, h: Holds, mask: u16) -> Table
         }
     }
     Table {
-        f0: h.f0,
-        f1: h.f1,
+        holds: h,
         limit: pass_limit(mask),
         count,
         plain,
@@ -104,6 +104,26 @@ fn flip_if(v: u16, plain: u16, named: u16, flip: u16) -> u16
     if v & named == plain { flip } else { 0 }
 }
 
+// What the true ones among the first `count` entries flip at the vector v, joined.
+pub fn flips_over<'a>(
+    plain: &'a [u16; MOST_CONSTRAINTS],
+    named: &'a [u16; MOST_CONSTRAINTS],
+    flip: &'a [u16; MOST_CONSTRAINTS],
+    count: usize,
+    v: u16,
+) -> u16
+    ensures { λ r. ⌜ r ≡ flipsOver (now (plain .entry)) (now (named .entry)) (now (flip .entry)) count v ⌝ }
+{
+    let end = least(count, MOST_CONSTRAINTS);
+    let mut flips: u16 = 0;
+    let mut i: usize = 0;
+    while i < end {
+        flips = flips | flip_if(v, plain[i], named[i], flip[i]);
+        i = i + 1;
+    }
+    flips
+}
+
 // One pass over the first `count` entries, from the vector v.
 pub fn pass_over<'a>(
     plain: &'a [u16; MOST_CONSTRAINTS],
@@ -114,14 +134,7 @@ pub fn pass_over<'a>(
 ) -> u16
     ensures { λ r. ⌜ r ≡ passOver (now (plain .entry)) (now (named .entry)) (now (flip .entry)) count v ⌝ }
 {
-    let end = least(count, MOST_CONSTRAINTS);
-    let mut flips: u16 = 0;
-    let mut i: usize = 0;
-    while i < end {
-        flips = flips | flip_if(v, plain[i], named[i], flip[i]);
-        i = i + 1;
-    }
-    v ^ flips
+    v ^ flips_over(plain, named, flip, count, v)
 }
 
 // Whether one of the first `count` entries is true at the vector v.
@@ -159,4 +172,25 @@ pub fn is_safe<'a>(
     } else {
         false
     }
+}
+
+// Whether one of the vectors below `end` is safe.
+pub fn is_any_safe<'a>(
+    f0: u16,
+    f1: u16,
+    plain: &'a [u16; MOST_CONSTRAINTS],
+    named: &'a [u16; MOST_CONSTRAINTS],
+    count: usize,
+    end: u16,
+) -> bool
+    ensures { λ r. ⌜ r ≡ some end (safeOver f0 f1 (now (plain .entry)) (now (named .entry)) count) ⌝ }
+{
+    let mut v: u16 = 0;
+    while v < end {
+        if is_safe(f0, f1, plain, named, count, v) {
+            return true;
+        }
+        v = v + 1;
+    }
+    false
 }

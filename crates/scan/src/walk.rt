@@ -3,7 +3,7 @@ use super::table::Table;
 use super::table::is_safe;
 use super::table::pass_over;
 ghost use mathlib.Core.Path.{_≡_};
-ghost use Rattle.scan.specs.way.Table.{safeOver, passOver};
+ghost use Rattle.scan.specs.way.Table.{safeIn, passIn};
 ghost use Rattle.scan.specs.Walk.{walkBy};
 
 // Where a walk ends: at a safe vector, with the passes made before it; or nowhere.
@@ -14,10 +14,10 @@ pub enum Walk {
 
 // The walk over a table from the vector `from`, of at most `limit` passes.
 pub fn walk_over(t: Table, from: u16, limit: u16) -> Walk
-    ensures { λ r. ⌜ r ≡ walkBy (safeOver (t .f0) (t .f1) (t .plain) (t .named) (t .count)) (passOver (t .plain) (t .named) (t .flip) (t .count)) limit from 0 ⌝ }
+    ensures { λ r. ⌜ r ≡ walkBy (safeIn t) (passIn t) limit from 0 ⌝ }
 {
-    let f0 = t.f0;
-    let f1 = t.f1;
+    let f0 = t.holds.f0;
+    let f1 = t.holds.f1;
     let count = t.count;
     let mut v = from;
     let mut made: u16 = 0;

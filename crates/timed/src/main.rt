@@ -2,6 +2,8 @@
 // operation, a four-byte count of times, a two-byte length and the file; for scans then a two-byte count and the scans, of six bytes each.
 use loader::LoadAnswer;
 use machine::ScanAnswer;
+use scan::MOST_CONSTRAINTS;
+use scan::MOST_OUTPUTS;
 use scan::Set;
 use scan::State;
 use verdict::Verdict;
@@ -71,8 +73,8 @@ fn mix_written(sum: u32, written: Written) -> u32 {
 
 // The checksum with a place of each array of the set: other places at each turn, so that the whole set has to be made.
 fn mix_set(sum: u32, set: Set, turn: u32) -> u32 {
-    let k = (turn % 12) as usize;
-    let i = (turn % 64) as usize;
+    let k = turn as usize % MOST_OUTPUTS;
+    let i = turn as usize % MOST_CONSTRAINTS;
     let read = set.reads[k];
     let output = set.outputs[k];
     let c = set.constraints[i];

@@ -10,14 +10,14 @@ use Rattle.words.specs.Loop.{iterate}
 use Rattle.words.proofs.BoolLaws.{by-test}
 use Rattle.scan.specs.declared.set.Set.{Set}
 use Rattle.scan.specs.Shape.{wellFormed}
-use Rattle.scan.specs.Constraint.{safe}
+use Rattle.scan.specs.Constraint.{safe, HasSafe}
 use Rattle.scan.specs.Holds.{startFrom, startVector}
 use Rattle.scan.specs.Walk.{after, Reaches}
 use Rattle.scan.proofs.LoneRanks.{AlikeButLone, F0-alike, F1-alike, safe-alike, pass-alike}
 use Rattle.verdict.specs.declared.verdict.Verdict.{Verdict}
 use Rattle.verdict.specs.declared.verdict.Verdict.the-variants.{Accepted, BadSet, ShortScratch, NoVector, NoEnd}
-use Rattle.verdict.specs.Judge.{judgeOf}
-use Rattle.verdict.specs.Meaning.{HasSafe, Good, FirstWithout, FirstEndless, Means}
+use Rattle.verdict.specs.Judge.{scratchBytes, judgeOf}
+use Rattle.verdict.specs.Meaning.{Good, FirstWithout, FirstEndless, Means}
 use Rattle.verdict.proofs.MeaningLaws.{verdict-means, verdict-of}
 use Rattle.verdict.proofs.JudgeLaws.{bad-set, short-scratch}
 
@@ -71,11 +71,11 @@ module _ (s t : Set) (a : AlikeButLone s t) where
   pub judge-alike : wellFormed s ≡ wellFormed t → (room : ℕ) → judgeOf s room ≡ judgeOf t room
   judge-alike formed room =
       by-test (wellFormed s)
-      (λ ok. by-test (ltb room (2 ^ s .n))
+      (λ ok. by-test (ltb room (scratchBytes (s .n)))
       (λ l.
-      let h = ltb-true room (2 ^ s .n) l in
-      sym (short-scratch s room ok h) ∙ short-scratch t room (sym formed ∙ ok) (subst (λ (n : ℕ). room < 2 ^ n) (a .n-same) h))
+      let h = ltb-true room (scratchBytes (s .n)) l in
+      sym (short-scratch s room ok h) ∙ short-scratch t room (sym formed ∙ ok) (subst (λ (n : ℕ). room < scratchBytes n) (a .n-same) h))
       (λ l.
-      let h = ltb-false room (2 ^ s .n) l in
-      sym (verdict-of t (sym formed ∙ ok) room (subst (λ (n : ℕ). 2 ^ n ≤ room) (a .n-same) h) (judgeOf s room) (means-there (judgeOf s room) (verdict-means s ok room h)))))
+      let h = ltb-false room (scratchBytes (s .n)) l in
+      sym (verdict-of t (sym formed ∙ ok) room (subst (λ (n : ℕ). scratchBytes n ≤ room) (a .n-same) h) (judgeOf s room) (means-there (judgeOf s room) (verdict-means s ok room h)))))
       (λ b. sym (bad-set s room b) ∙ bad-set t room (sym formed ∙ b))

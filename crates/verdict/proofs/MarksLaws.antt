@@ -1,17 +1,16 @@
--- Marks, turn by turn: a walk that looks for a mark, a path that is marked, and the safe vectors that are marked.
+-- Marks, turn by turn: a walk that looks for a mark, and a path that is marked.
 -- Assumes nothing.
 use mathlib.Core.Path.{_≡_, refl, sym, ap, ap₂, _∙_}
 use mathlib.Core.Bool.{Bool, true, false, cond, _||_}
-use mathlib.Core.List.{List, [], _∷_, _++_, append-assoc}
+use mathlib.Core.List.{List}
 use Prim.Native.Nat.{ℕ, zero, suc, _+_, _-_, _<_}
 use native.Mathlib.Numerals.{add-one}
 use native.Mathlib.Omega.{arith}
-use lib.ListN.{length, getD, set, drop, length-append}
-use lib.Seq.{set-at, drop-cons}
+use lib.ListN.{set}
 use Rattle.words.specs.Loop.{some, iterate}
 use Rattle.words.proofs.LoopLaws.{some-true}
 use Rattle.words.proofs.LoopTurns.{some-more}
-use Rattle.verdict.specs.way.Marks.{marked, markedWhere, comesToMark, pathMarked}
+use Rattle.verdict.specs.way.Marks.{marked, comesToMark, pathMarked}
 
 -- one pass more, as code counts
 pub pass-more : (next : ℕ → ℕ) (from made v x : ℕ) → v ≡ iterate next made from → x ≡ next v → x ≡ iterate next (made + 1) from
@@ -61,30 +60,3 @@ module _ (next : ℕ → ℕ) where
   pub path-end : (left v : ℕ) (marks : List ℕ) → left ≡ 0 → marks ≡ pathMarked next left v marks
   unfolding pathMarked
   path-end left v marks e = ap (λ (k : ℕ). pathMarked next k v marks) (sym e)
-
--- ---- marking the safe vectors
-
-module _ (ok : ℕ → Bool) where
-  pub where-length : (n : ℕ) → length (markedWhere n ok) ≡ n
-  unfolding markedWhere
-  where-length zero = refl
-  where-length (suc n) =
-      length-append (markedWhere n ok) (cond (ok n) 1 0 ∷ []) ∙ ap (λ (k : ℕ). k + 1) (where-length n) ∙ add-one n
-
-  pub where-none : [] ≡ markedWhere 0 ok
-  unfolding markedWhere
-  where-none = refl
-
-  where-more : (v : ℕ) → markedWhere (v + 1) ok ≡ markedWhere v ok ++ (cond (ok v) 1 0 ∷ [])
-  unfolding markedWhere
-  where-more v = ap (λ (k : ℕ). markedWhere k ok) (add-one v)
-
-  -- the byte of one vector more is stored
-  pub where-store : (v x : ℕ) (old : List ℕ) → v < length old → x ≡ cond (ok v) 1 0
-      → set (markedWhere v ok ++ drop v old) v x ≡ markedWhere (v + 1) ok ++ drop (v + 1) old
-  where-store v x old h ex =
-      ap (λ (rest : List ℕ). set (markedWhere v ok ++ rest) v x) (drop-cons old v 0 h)
-      ∙ set-at (markedWhere v ok) (getD old v 0) (drop (suc v) old) x v (where-length v)
-      ∙ ap₂ (λ (y k : ℕ). markedWhere v ok ++ (y ∷ drop k old)) ex (sym (add-one v))
-      ∙ sym (append-assoc (markedWhere v ok) (cond (ok v) 1 0 ∷ []) (drop (v + 1) old))
-      ∙ ap (λ (l : List ℕ). l ++ drop (v + 1) old) (sym (where-more v))

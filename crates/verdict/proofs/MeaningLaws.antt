@@ -12,13 +12,13 @@ use Rattle.words.proofs.BoolLaws.{by-test, clash, or-false}
 use Rattle.words.proofs.LoopLaws.{some-true, some-false, some-at, some-false-at, some-first, First, first-spec, first-is, first-none}
 use Rattle.scan.specs.declared.set.Set.{Set}
 use Rattle.scan.specs.Shape.{wellFormed}
-use Rattle.scan.specs.Constraint.{safe}
+use Rattle.scan.specs.Constraint.{safe, hasVector, HasSafe}
 use Rattle.scan.specs.Walk.{Reaches}
 use Rattle.scan.proofs.WalkLaws.{walk-due, walk-endless, reaches-or-never}
 use Rattle.verdict.specs.declared.verdict.Verdict.{Verdict}
 use Rattle.verdict.specs.declared.verdict.Verdict.the-variants.{Accepted, BadSet, ShortScratch, NoVector, NoEnd}
-use Rattle.verdict.specs.Judge.{hasVector, isNever, endless, fails, rejectionBy, rejection, verdictAt, judgeWords, judgeOf}
-use Rattle.verdict.specs.Meaning.{HasSafe, Good, FirstWithout, FirstEndless, Means, Bad}
+use Rattle.verdict.specs.Judge.{isNever, endless, fails, rejectionBy, rejection, verdictAt, judgeWords, scratchBytes, judgeOf}
+use Rattle.verdict.specs.Meaning.{Good, FirstWithout, FirstEndless, Means, Bad}
 
 module _ (s : Set) where
   -- ---- the tests, and what they mean
@@ -146,10 +146,10 @@ module _ (s : Set) where
 
     -- ---- the verdict, given scratch enough
 
-    module _ (room : ℕ) (enough : 2 ^ s .n ≤ room) where
+    module _ (room : ℕ) (enough : scratchBytes (s .n) ≤ room) where
       judges : judgeOf s room ≡ judgeWords s
       unfolding judgeOf
-      judges = rw (ok, le-ltb room (2 ^ s .n) enough)
+      judges = rw (ok, le-ltb room (scratchBytes (s .n)) enough)
 
       -- whatever verdict's meaning holds is the verdict
       pub verdict-of : (v : Verdict) → Means s v → judgeOf s room ≡ v

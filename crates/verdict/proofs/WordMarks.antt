@@ -3,33 +3,31 @@
 -- Assumes nothing.
 use mathlib.Core.Path.{_≡_, refl, sym, ap, ap₂, _∙_, subst, fun-ext}
 use mathlib.Core.Bool.{Bool, true, false, cond, not}
-use mathlib.Core.List.{List, [], _∷_, _++_}
+use mathlib.Core.List.{List}
 use Prim.Native.Nat.{ℕ, zero, suc, _+_, _^_, _<_}
-use native.Mathlib.Nat.{add-zero}
 use native.Mathlib.Decide.{ℕ-discrete, decLt}
 use native.Mathlib.Omega.{arith}
 use lib.Dec.{eqb}
-use lib.ListN.{length, getD, set, length-set, List·getD-append, List·getD-eq-default}
-use lib.Seq.{getD-set-same, getD-set-other, getD-append-add}
+use lib.ListN.{length, getD, set, length-set, List·getD-eq-default}
+use lib.Seq.{getD-set-same, getD-set-other}
 use lib.Pow.{pow-pos}
 use Rattle.words.specs.Loop.{some, iterate}
 use Rattle.words.proofs.BoolLaws.{by-test, clash}
-use Rattle.words.proofs.LoopLaws.{below-suc, some-at, some-false-at}
+use Rattle.words.proofs.LoopLaws.{some-at, some-false-at, listed-long, getD-listed}
 use Rattle.scan.specs.declared.set.Set.{Set}
 use Rattle.scan.specs.Shape.{wellFormed}
-use Rattle.scan.specs.Constraint.{safe}
+use Rattle.scan.specs.Constraint.{safe, hasVector}
 use Rattle.scan.specs.declared.table.Table.{Table}
 use Rattle.scan.specs.Holds.{unheldCount, passLimit, startFrom, startVector}
-use Rattle.scan.specs.way.Table.{tableOf}
+use Rattle.scan.specs.way.Table.{tableOf, safeIn, passIn}
 use Rattle.scan.specs.Pass.{pass}
 use Rattle.scan.specs.Walk.{after, Reaches}
 use Rattle.scan.proofs.HoldsLaws.{start-lt}
 use Rattle.scan.proofs.PassLaws.{pass-lt, after-lt}
-use Rattle.scan.proofs.TableLaws.{safeIn, passIn, table-safe, table-pass, table-start, table-limit}
+use Rattle.scan.proofs.TableLaws.{table-safe, table-pass, table-start, table-limit}
 use Rattle.scan.proofs.WalkLaws.{ReachesFrom, safe-reaches, meets-reaches, reaches-on, reaches-after, walk-due, walk-never}
-use Rattle.verdict.specs.Judge.{hasVector, isNever, endless}
-use Rattle.verdict.specs.way.Marks.{marked, markedWhere, comesToMark, pathMarked, settled}
-use Rattle.verdict.proofs.MarksLaws.{where-length}
+use Rattle.verdict.specs.Judge.{isNever, endless}
+use Rattle.verdict.specs.way.Marks.{marked, markOf, markedWhere, comesToMark, pathMarked, settled}
 
 -- a byte for each vector; a mark says that passes lead to a safe vector; every safe vector is marked
 pub record Ready (s : Set) (w : ℕ) (marks : List ℕ) : Type 0 where
@@ -44,18 +42,8 @@ mark-byte true = refl
 mark-byte false = refl
 
 where-marked : (ok : ℕ → Bool) (n v : ℕ) → v < n → marked (markedWhere n ok) v ≡ ok v
-unfolding markedWhere marked
-where-marked ok zero v h = absurd (omega arith)
-where-marked ok (suc n) v h =
-    below-suc (λ (k : ℕ). eqb (getD (markedWhere n ok ++ (cond (ok n) 1 0 ∷ [])) k 0) 1 ≡ ok k) {n = n}
-    (λ k l.
-    ap (λ (x : ℕ). eqb x 1) (List·getD-append (markedWhere n ok) (cond (ok n) 1 0 ∷ []) 0 k (subst (λ (m : ℕ). k < m) (sym (where-length ok n)) l))
-    ∙ where-marked ok n k l)
-    (ap (λ (x : ℕ). eqb x 1)
-    (ap (λ (m : ℕ). getD (markedWhere n ok ++ (cond (ok n) 1 0 ∷ [])) m 0) (sym (add-zero n ∙ refl) ∙ ap (λ (m : ℕ). m + 0) (sym (where-length ok n)))
-    ∙ getD-append-add (markedWhere n ok) (cond (ok n) 1 0 ∷ []) 0 0)
-    ∙ mark-byte (ok n))
-    v h
+unfolding marked
+where-marked ok n v h = ap (λ (x : ℕ). eqb x 1) (getD-listed (markOf ok) 0 n v h) ∙ mark-byte (ok v)
 
 marked-below : (marks : List ℕ) (v : ℕ) → marked marks v ≡ true → v < length marks
 unfolding marked
@@ -68,9 +56,9 @@ marked-below marks v e = go (decLt v (length marks))
 module _ (s : Set) (ok : wellFormed s ≡ true) (w : ℕ) where
   pub ready-safe : Ready s w (markedWhere (2 ^ s .n) (safe s w))
   ready-safe = record {
-    long = where-length (safe s w) (2 ^ s .n);
+    long = listed-long (markOf (safe s w)) (2 ^ s .n);
     sound = λ v e.
-        let h = subst (λ (m : ℕ). v < m) (where-length (safe s w) (2 ^ s .n)) (marked-below (markedWhere (2 ^ s .n) (safe s w)) v e) in
+        let h = subst (λ (m : ℕ). v < m) (listed-long (markOf (safe s w)) (2 ^ s .n)) (marked-below (markedWhere (2 ^ s .n) (safe s w)) v e) in
         safe-reaches s w v (sym (where-marked (safe s w) (2 ^ s .n) v h) ∙ e);
     complete = λ v h e. where-marked (safe s w) (2 ^ s .n) v h ∙ e;
   }
@@ -161,11 +149,11 @@ module _ (s : Set) (ok : wellFormed s ≡ true) (w : ℕ) (t : Table) (et : t �
   )
 
   -- settling a request tells whether its walk never is safe, and leaves the marks right
-  pub settled-request : (marks : List ℕ) → Ready s w marks → (g : ℕ) → g < 2 ^ s .n → (from : ℕ) → from ≡ startFrom (t .f0) (t .f1) g
+  pub settled-request : (marks : List ℕ) → Ready s w marks → (g : ℕ) → g < 2 ^ s .n → (from : ℕ) → from ≡ startFrom (t .holds .f0) (t .holds .f1) g
       → (b : Bool) (x : List ℕ) → b ≡ comesToMark (passIn t) marks (t .limit) from → x ≡ settled (passIn t) (t .limit) from marks
       → (b ≡ not (endless s w g)) × Ready s w x
   settled-request marks ready g fits from ef b x eb ex =
-      let start : from ≡ startVector s w g = ef ∙ ap (λ (y : Table). startFrom (y .f0) (y .f1) g) et ∙ table-start s w ok g in
+      let start : from ≡ startVector s w g = ef ∙ ap (λ (y : Table). startFrom (y .holds .f0) (y .holds .f1) g) et ∙ table-start s w ok g in
       let limit : t .limit ≡ passLimit s w = ap (λ (y : Table). y .limit) et ∙ table-limit s w ok in (
         eb ∙ (λ i. comesToMark (pass-is i) marks (limit i) (start i)) ∙ comes-endless s ok w marks ready g fits,
         subst (Ready s w) (sym (ex ∙ (λ i. settled (pass-is i) (limit i) (start i) marks))) (ready-settled s ok w marks ready g fits),

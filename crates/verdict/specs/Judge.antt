@@ -9,14 +9,10 @@ use Rattle.scan.specs.declared.set.Set.{Set}
 use Rattle.scan.specs.declared.walk.Walk.{Walk}
 use Rattle.scan.specs.declared.walk.Walk.the-variants.{Safe, Never}
 use Rattle.scan.specs.Shape.{wellFormed}
-use Rattle.scan.specs.Constraint.{safe}
+use Rattle.scan.specs.Constraint.{hasVector}
 use Rattle.scan.specs.Walk.{walk}
 use Rattle.verdict.specs.declared.verdict.Verdict.{Verdict}
 use Rattle.verdict.specs.declared.verdict.Verdict.the-variants.{Accepted, BadSet, ShortScratch, NoVector, NoEnd}
-
--- one of the 2 ^ n vectors is safe at the read word w
-unfoldable pub hasVector : Set → ℕ → Bool
-hasVector s w = some (2 ^ s .n) (safe s w)
 
 -- a walk has no safe vector
 abbrev pub isNever : Walk → Bool
@@ -47,16 +43,20 @@ verdictAt s w = let bad = rejection s w in cond (ltb w (2 ^ s .r)) bad Accepted
 unfoldable pub judgeWords : Set → Verdict
 judgeWords s = verdictAt s (first (2 ^ s .r) (fails s))
 
--- 20, then 21 where the scratch has under 2 ^ n bytes, or the verdict on the words
+-- the bytes of scratch that a verdict needs: one for each of 2 ^ n vectors
+unfoldable pub scratchBytes : ℕ → ℕ
+scratchBytes n = 2 ^ n
+
+-- 20, then 21 where the scratch is too short, or the verdict on the words
 unfoldable pub judgeOf : Set → ℕ → Verdict
 judgeOf s room =
     let verdict = judgeWords s in
     cond (not (wellFormed s)) BadSet
-    (cond (ltb room (2 ^ s .n)) ShortScratch verdict)
+    (cond (ltb room (scratchBytes (s .n))) ShortScratch verdict)
 
--- how many bytes of the scratch are free afterwards: none with 20 and 21, else the first 2 ^ n
+-- how many bytes of the scratch are free afterwards: none with 20 and 21, else those that the verdict needs
 unfoldable pub looseBytes : Set → ℕ → ℕ
 looseBytes s room =
-    let vectors = 2 ^ s .n in
+    let needed = scratchBytes (s .n) in
     cond (not (wellFormed s)) 0
-    (cond (ltb room (2 ^ s .n)) 0 vectors)
+    (cond (ltb room needed) 0 needed)

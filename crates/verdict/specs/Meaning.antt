@@ -1,18 +1,12 @@
 -- What each verdict on a well-formed set, given scratch enough, means: no bound on the passes of a walk stands here.
 -- Assumes nothing.
-use mathlib.Core.Path.{_≡_}
-use mathlib.Core.Bool.{true}
 use mathlib.Core.Logic.{_⊎_}
 use Prim.Native.Nat.{ℕ, _^_, _<_}
 use Rattle.scan.specs.declared.set.Set.{Set}
-use Rattle.scan.specs.Constraint.{safe}
+use Rattle.scan.specs.Constraint.{HasSafe}
 use Rattle.scan.specs.Walk.{Reaches}
 use Rattle.verdict.specs.declared.verdict.Verdict.{Verdict}
 use Rattle.verdict.specs.declared.verdict.Verdict.the-variants.{Accepted, BadSet, ShortScratch, NoVector, NoEnd}
-
--- some output vector leaves every constraint false
-abbrev pub HasSafe : Set → ℕ → Type 0
-HasSafe s w = (v : ℕ) × (v < 2 ^ s .n) × (safe s w v ≡ true)
 
 -- at the read word w some vector is safe, and the walk from every request reaches a safe one
 pub record Good (s : Set) (w : ℕ) : Type 0 where

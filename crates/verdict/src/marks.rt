@@ -1,12 +1,14 @@
 // Marks at one read word: a byte of scratch for each vector, 1 where passes from the vector are known to lead to a safe one.
 use choice::either;
+use scan::MOST_CONSTRAINTS;
 use scan::is_safe;
 use scan::pass_over;
 ghost use mathlib.Core.Path.{_≡_};
 ghost use mathlib.Core.Bool.{cond};
-ghost use Prim.Native.Nat.{_≤_};
+ghost use Prim.Native.Nat.{_≤_, _^_};
 ghost use lib.ListN.{length, set};
 ghost use Rattle.words.specs.Loop.{some};
+ghost use Rattle.scan.specs.Set.{mostOutputs};
 ghost use Rattle.scan.specs.way.Table.{safeOver, passOver};
 ghost use Rattle.verdict.specs.way.Marks.{marked, markedWhere, comesToMark, pathMarked, settled};
 
@@ -45,12 +47,12 @@ fn mark_if(test: bool) -> u8
 pub fn mark_safe<'a>(
     f0: u16,
     f1: u16,
-    plain: &'a [u16; 64],
-    named: &'a [u16; 64],
+    plain: &'a [u16; MOST_CONSTRAINTS],
+    named: &'a [u16; MOST_CONSTRAINTS],
     count: usize,
     marks: &mut [u8],
 ) -> bool
-    requires { ⌜ length (now marks) ≤ 4096 ⌝ }
+    requires { ⌜ length (now marks) ≤ 2 ^ mostOutputs ⌝ }
     ensures { λ r. ⌜ r ≡ some (length (now (marks .entry))) (safeOver f0 f1 (now (plain .entry)) (now (named .entry)) count) ⌝ }
     ensures { λ r. ⌜ now (marks .exit) ≡ markedWhere (length (now (marks .entry))) (safeOver f0 f1 (now (plain .entry)) (now (named .entry)) count) ⌝ }
 {
@@ -67,9 +69,9 @@ pub fn mark_safe<'a>(
 
 // Whether one of the vectors after 0 to `limit` passes from `from` is marked.
 fn comes_to_mark<'a>(
-    plain: &'a [u16; 64],
-    named: &'a [u16; 64],
-    flip: &'a [u16; 64],
+    plain: &'a [u16; MOST_CONSTRAINTS],
+    named: &'a [u16; MOST_CONSTRAINTS],
+    flip: &'a [u16; MOST_CONSTRAINTS],
     count: usize,
     from: u16,
     limit: u16,
@@ -91,9 +93,9 @@ fn comes_to_mark<'a>(
 
 // Marks the vectors from `from` on, up to one that is marked, and at most `limit` of them.
 fn mark_path<'a>(
-    plain: &'a [u16; 64],
-    named: &'a [u16; 64],
-    flip: &'a [u16; 64],
+    plain: &'a [u16; MOST_CONSTRAINTS],
+    named: &'a [u16; MOST_CONSTRAINTS],
+    flip: &'a [u16; MOST_CONSTRAINTS],
     count: usize,
     from: u16,
     limit: u16,
@@ -115,9 +117,9 @@ fn mark_path<'a>(
 
 // Whether the walk from `from` comes to a mark within `limit` passes; its path is then marked.
 pub fn settle<'a>(
-    plain: &'a [u16; 64],
-    named: &'a [u16; 64],
-    flip: &'a [u16; 64],
+    plain: &'a [u16; MOST_CONSTRAINTS],
+    named: &'a [u16; MOST_CONSTRAINTS],
+    flip: &'a [u16; MOST_CONSTRAINTS],
     count: usize,
     from: u16,
     limit: u16,

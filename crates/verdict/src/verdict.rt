@@ -7,10 +7,9 @@ use scan::start_vector;
 use shape::well_formed;
 ghost use mathlib.Core.Path.{_≡_};
 ghost use mathlib.Core.Bool.{true};
-ghost use Prim.Native.Nat.{_^_};
 ghost use lib.ListN.{length, drop};
 ghost use Rattle.scan.specs.Shape.{wellFormed};
-ghost use Rattle.verdict.specs.Judge.{judgeWords, judgeOf, looseBytes};
+ghost use Rattle.verdict.specs.Judge.{scratchBytes, judgeWords, judgeOf, looseBytes};
 
 // Accepted, or why not: the first read word that fails and, where it has a safe vector, the first request whose walk never is safe.
 pub enum Verdict {
@@ -23,7 +22,7 @@ pub enum Verdict {
 
 // The verdict on the words of a well-formed set, with a byte of scratch for each vector.
 fn judge_words(set: Set, marks: &mut [u8]) -> Verdict
-    requires { ⌜ (wellFormed set ≡ true) × (length (now marks) ≡ 2 ^ set .n) ⌝ }
+    requires { ⌜ (wellFormed set ≡ true) × (length (now marks) ≡ scratchBytes (set .n)) ⌝ }
     ensures { λ r. ⌜ r ≡ judgeWords set ⌝ }
 {
     let words = 1u32 << set.r;
@@ -33,8 +32,9 @@ fn judge_words(set: Set, marks: &mut [u8]) -> Verdict
     let mut g: u16 = 0;
     'words: while w < words {
         let t = build(set, w);
-        let f0 = t.f0;
-        let f1 = t.f1;
+        let holds = t.holds;
+        let f0 = holds.f0;
+        let f1 = holds.f1;
         let limit = t.limit;
         let count = t.count;
         any = mark_safe(f0, f1, &t.plain, &t.named, count, &mut *marks);
@@ -63,7 +63,7 @@ fn judge_words(set: Set, marks: &mut [u8]) -> Verdict
     Verdict::NoVector { word: w }
 }
 
-// The verdict on a set, with scratch of at least 2 ^ n bytes: of those the content afterwards is free, later bytes are untouched.
+// The verdict on a set, with scratch of at least `scratchBytes n` bytes, one for each vector: of those the content afterwards is free, later bytes are untouched.
 pub fn judge(set: Set, scratch: &mut [u8]) -> Verdict
     ensures { λ r. ⌜ r ≡ judgeOf set (length (now (scratch .entry))) ⌝ }
     ensures { λ r. ⌜ drop (looseBytes set (length (now (scratch .entry)))) (now (scratch .exit)) ≡ drop (looseBytes set (length (now (scratch .entry)))) (now (scratch .entry)) ⌝ }

@@ -1,17 +1,21 @@
--- The laws of the loops of specs/Loop: `gather`, `word`, `some`, `all`, `first`.
+-- The laws of the loops of specs/Loop: `gather`, `word`, `some`, `all`, `first`, `listed`.
 -- Assumes nothing.
 use mathlib.Core.Path.{_≡_, refl, sym, ap, ap₂, _∙_, subst}
 use mathlib.Core.Bool.{Bool, true, false, cond, _&&_, _||_, true≢false}
+use mathlib.Core.List.{List, [], _∷_, _++_, append-assoc}
 use Prim.Native.Nat.{ℕ, zero, suc, _+_, _-_, _^_, _≤_, _<_}
 use native.Mathlib.Nat.{not-suc-le-zero, add-zero, add-suc, suc-add, zero-add, mod-eq-of-lt}
 use native.Mathlib.Decide.{ℕ-discrete, decLe}
+use native.Mathlib.Numerals.{add-one}
 use native.Mathlib.Omega.{arith}
 use lib.Dec.{eqb, ltb}
 use lib.Pow.{pow-pos, pow-lt}
 use lib.Bits.{bitOr, or-lt, and-mask}
+use lib.ListN.{length, getD, set, drop, length-append, List·getD-append}
+use lib.Seq.{set-at, drop-cons, getD-append-add}
 use borrow.Author.Tests.{eq-eqb, ne-eqb, ltb-true, ltb-false}
 use Rattle.words.specs.Word.{bit}
-use Rattle.words.specs.Loop.{gather, bitIf, word, some, all, firstFrom, first}
+use Rattle.words.specs.Loop.{gather, bitIf, word, some, all, firstFrom, first, listed}
 use Rattle.words.proofs.BoolLaws.{by-test, clash, or-true, and-true, and-false}
 use Rattle.words.proofs.BitLaws.{bit-and, bit-or, bit-zero, bit-pow, no-bits}
 
@@ -219,3 +223,48 @@ pub some-bit : (n w : ℕ) → w < 2 ^ n → zero < w → (k : ℕ) × (k < n) �
 some-bit n w h p =
     by-test (some n (λ k. bit k w)) (some-at n (λ k. bit k w))
     (λ e. let z : w ≡ 0 = no-bits n w h (some-false-at n (λ k. bit k w) e) in absurd (omega arith))
+
+-- ---- listed
+
+module _ {A : Type 0} (f : ℕ → A) where
+  pub listed-none : [] ≡ listed 0 f
+  unfolding listed
+  listed-none = refl
+
+  pub listed-more : (n : ℕ) → listed (n + 1) f ≡ listed n f ++ (f n ∷ [])
+  unfolding listed
+  listed-more n = ap (λ (k : ℕ). listed k f) (add-one n)
+
+  pub listed-long : (n : ℕ) → length (listed n f) ≡ n
+  unfolding listed
+  listed-long zero = refl
+  listed-long (suc n) = length-append (listed n f) (f n ∷ []) ∙ ap (λ (k : ℕ). k + 1) (listed-long n) ∙ add-one n
+
+  -- the last element of one more
+  last-listed : (d : A) (n : ℕ) → getD (listed n f ++ (f n ∷ [])) n d ≡ f n
+  last-listed d n =
+      ap (λ (m : ℕ). getD (listed n f ++ (f n ∷ [])) m d) (sym (add-zero n) ∙ ap (λ (m : ℕ). m + 0) (sym (listed-long n)))
+      ∙ getD-append-add (listed n f) (f n ∷ []) 0 d
+
+  pub getD-listed : (d : A) (n i : ℕ) → i < n → getD (listed n f) i d ≡ f i
+  unfolding listed
+  getD-listed d zero i h = absurd (not-suc-le-zero h)
+  getD-listed d (suc n) i h =
+      below-suc (λ (k : ℕ). getD (listed n f ++ (f n ∷ [])) k d ≡ f k) {n = n}
+      (λ k l. List·getD-append (listed n f) (f n ∷ []) d k (subst (λ (m : ℕ). k < m) (sym (listed-long n)) l) ∙ getD-listed d n k l)
+      (last-listed d n) i h
+
+  -- one element more is stored over an old one
+  pub listed-store : (d : A) (n : ℕ) (x : A) (old : List A) → n < length old → x ≡ f n
+      → set (listed n f ++ drop n old) n x ≡ listed (n + 1) f ++ drop (n + 1) old
+  listed-store d n x old h ex =
+      ap (λ (rest : List A). set (listed n f ++ rest) n x) (drop-cons old n d h)
+      ∙ set-at (listed n f) (getD old n d) (drop (suc n) old) x n (listed-long n)
+      ∙ (λ i. listed n f ++ (ex i ∷ drop (sym (add-one n) i) old))
+      ∙ sym (append-assoc (listed n f) (f n ∷ []) (drop (n + 1) old))
+      ∙ ap (λ (l : List A). l ++ drop (n + 1) old) (sym (listed-more n))
+
+pub listed-cong : {A : Type 0} (n : ℕ) (f g : ℕ → A) → ((k : ℕ) → k < n → f k ≡ g k) → listed n f ≡ listed n g
+unfolding listed
+listed-cong zero f g h = refl
+listed-cong (suc n) f g h = ap₂ (λ l x. l ++ (x ∷ [])) (listed-cong n f g (λ k l. h k (omega arith))) (h n (omega arith))

@@ -12,6 +12,7 @@ use lib.Count.{onesIn, ones, ones-step}
 use Rattle.words.proofs.BoolLaws.{by-test}
 use Rattle.words.specs.Word.{odd, bit, popcount}
 use Rattle.words.specs.Loop.{count}
+use Rattle.words.proofs.LoopLaws.{below-suc}
 use Rattle.words.proofs.BitLaws.{half-lt, bit-lowest, bit-half, no-bits, by-digit, digit-lt, odd-one}
 
 ones-in : (n w : ℕ) → w < 2 ^ n → ones w ≡ onesIn n w
@@ -94,3 +95,29 @@ pub count-le : (n : ℕ) (p : ℕ → Bool) → count n p ≤ n
 unfolding count
 count-le zero p = omega arith
 count-le (suc n) p = by-test (p n) (λ e. rw e (omega (arith, count-le n p))) (λ e. rw e (omega (arith, count-le n p)))
+
+-- ---- counts of two tests, one of which passes wherever the other does
+
+pub count-le-of : (n : ℕ) (p q : ℕ → Bool) → ((k : ℕ) → k < n → p k ≡ true → q k ≡ true) → count n p ≤ count n q
+unfolding count
+count-le-of zero p q f = omega arith
+count-le-of (suc n) p q f =
+    let ih = count-le-of n p q (λ k h. f k (omega arith)) in
+    by-test (p n)
+    (λ e. rw (e, f n (omega arith) e) (omega (arith, ih)))
+    (λ e. by-test (q n) (λ d. rw (e, d) (omega (arith, ih))) (λ d. rw (e, d) (omega (arith, ih))))
+
+-- and somewhere alone: it is passed more often
+pub count-lt-of : (n : ℕ) (p q : ℕ → Bool) → ((k : ℕ) → k < n → p k ≡ true → q k ≡ true) → (j : ℕ) → j < n → p j ≡ false → q j ≡ true
+    → count n p < count n q
+unfolding count
+count-lt-of zero p q f j h a b = absurd (omega arith)
+count-lt-of (suc n) p q f j h a b =
+    below-suc (λ (i : ℕ). p i ≡ false → q i ≡ true → count (suc n) p < count (suc n) q) {n = n}
+    (λ i l x y.
+    let ih = count-lt-of n p q (λ k m. f k (omega arith)) i l x y in
+    by-test (p n)
+    (λ e. rw (e, f n (omega arith) e) (omega (arith, ih)))
+    (λ e. by-test (q n) (λ d. rw (e, d) (omega (arith, ih))) (λ d. rw (e, d) (omega (arith, ih)))))
+    (λ x y. let ih = count-le-of n p q (λ k m. f k (omega arith)) in rw (x, y) (omega (arith, ih)))
+    j h a b

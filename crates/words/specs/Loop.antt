@@ -1,7 +1,7 @@
 -- Loops over the numbers below a count. Each goes by a count of what it has done, so that "one more" is the clause at `suc`.
 -- Assumes nothing.
 use Prim.Native.Nat.{ℕ, zero, suc, _+_, _^_}
-use mathlib.Core.List.{List, [], _∷_}
+use mathlib.Core.List.{List, [], _∷_, _++_}
 use mathlib.Core.Bool.{Bool, true, false, cond, _&&_, _||_}
 use lib.Bits.{bitOr}
 
@@ -46,6 +46,11 @@ bitIf p k = cond (p k) (2 ^ k) 0
 -- the word of n bits whose bit k is p k
 unfoldable pub word : ℕ → (ℕ → Bool) → ℕ
 word n p = gather n (bitIf p)
+
+-- the list f 0, f 1 .. f (n - 1)
+unfoldable pub listed : {A : Type 0} → ℕ → (ℕ → A) → List A
+listed zero f = []
+listed (suc n) f = listed n f ++ (f n ∷ [])
 
 -- f applied k times
 unfoldable pub iterate : (ℕ → ℕ) → ℕ → ℕ → ℕ

@@ -1,14 +1,15 @@
 -- `cases::name_length` does nothing undefined and ends. Assumes nothing.
 use Prim.Native.Nat.{_≤_, _-_}
+use Rattle.scan.specs.Set.{namePlaces}
 use borrow.Author.Needs.{needs}
 use Rattle.cases.proofs.name_length.Statement.{statement}
 use Rattle.cases.proofs.name_length.Tie as tie
 
 abbrev Inv-loop : tie.InvT-loop
-Inv-loop name k₀ k = k ≤ 8
+Inv-loop name k₀ k = k ≤ namePlaces
 
 abbrev μ-loop : tie.MeasureT-loop
-μ-loop name k₀ k = 8 - k
+μ-loop name k₀ k = namePlaces - k
 
 loop-holds : tie.Need-loop-holds Inv-loop μ-loop
 loop-holds c = search needs

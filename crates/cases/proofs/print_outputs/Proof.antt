@@ -1,14 +1,15 @@
 -- `cases::print_outputs` does nothing undefined and ends. Assumes nothing.
 use Prim.Native.Nat.{_≤_, _-_}
+use Rattle.scan.specs.Set.{mostOutputs}
 use borrow.Author.Needs.{needs}
 use Rattle.cases.proofs.print_outputs.Statement.{statement}
 use Rattle.cases.proofs.print_outputs.Tie as tie
 
 abbrev Inv-loop : tie.InvT-loop
-Inv-loop set n k₀ k = k ≤ 12
+Inv-loop set n k₀ k = k ≤ mostOutputs
 
 abbrev μ-loop : tie.MeasureT-loop
-μ-loop set n k₀ k = 12 - k
+μ-loop set n k₀ k = mostOutputs - k
 
 loop-holds : tie.Need-loop-holds Inv-loop μ-loop
 loop-holds c = search needs

@@ -1,14 +1,15 @@
 -- `cases::print_reads` does nothing undefined and ends. Assumes nothing.
 use Prim.Native.Nat.{_≤_, _-_}
+use Rattle.scan.specs.Set.{mostReads}
 use borrow.Author.Needs.{needs}
 use Rattle.cases.proofs.print_reads.Statement.{statement}
 use Rattle.cases.proofs.print_reads.Tie as tie
 
 abbrev Inv-loop : tie.InvT-loop
-Inv-loop set r k₀ k = k ≤ 16
+Inv-loop set r k₀ k = k ≤ mostReads
 
 abbrev μ-loop : tie.MeasureT-loop
-μ-loop set r k₀ k = 16 - k
+μ-loop set r k₀ k = mostReads - k
 
 loop-holds : tie.Need-loop-holds Inv-loop μ-loop
 loop-holds c = search needs

@@ -12,10 +12,13 @@ use Rattle.words.specs.Loop.{gather, some}
 use Rattle.scan.specs.declared.set.Constraint.{Constraint}
 use Rattle.scan.specs.declared.set.Set.{Set}
 use Rattle.scan.specs.declared.table.Table.{Table}
+use Rattle.scan.specs.declared.walk.Walk.{Walk}
 use Rattle.scan.specs.Set.{mostOutputs, mostConstraints, withCounts, constraint, outs}
 use Rattle.scan.specs.Constraint.{readsTrue, combined}
-use Rattle.scan.specs.Holds.{F0, F1, passLimit}
+use Rattle.scan.specs.Holds.{passLimit, startFrom}
+use Rattle.scan.specs.way.Holds.{holdsOf}
 use Rattle.scan.specs.Pass.{yields}
+use Rattle.scan.specs.Walk.{walkBy}
 
 -- ---- building it
 
@@ -30,8 +33,7 @@ active c w = combined c && readsTrue c w
 -- the table with no entry yet
 abbrev pub emptyTable : Set → ℕ → Table
 emptyTable s w = record {
-  f0 = F0 s w;
-  f1 = F1 s w;
+  holds = holdsOf s w;
   limit = passLimit s w;
   count = 0;
   plain = replicate mostConstraints 0;
@@ -42,8 +44,7 @@ emptyTable s w = record {
 -- the table with an entry more, for a constraint and the outputs of it that yield
 abbrev pub withEntry : Constraint → ℕ → Table → Table
 withEntry c y t = record {
-  f0 = t .f0;
-  f1 = t .f1;
+  holds = t .holds;
   limit = t .limit;
   count = t .count + 1;
   plain = set (t .plain) (t .count) (c .«out_plain»);
@@ -70,9 +71,13 @@ entryTrue plain named v i = eqb (bitAnd v (getD named i 0)) (getD plain i 0)
 unfoldable pub entryFlips : List ℕ → List ℕ → List ℕ → ℕ → ℕ → ℕ
 entryFlips plain named flip v i = cond (entryTrue plain named v i) (getD flip i 0) 0
 
+-- what all entries flip
+unfoldable pub flipsOver : List ℕ → List ℕ → List ℕ → ℕ → ℕ → ℕ
+flipsOver plain named flip count v = gather (min count mostConstraints) (entryFlips plain named flip v)
+
 -- one pass over the entries
 unfoldable pub passOver : List ℕ → List ℕ → List ℕ → ℕ → ℕ → ℕ
-passOver plain named flip count v = bitXor v (gather (min count mostConstraints) (entryFlips plain named flip v))
+passOver plain named flip count v = bitXor v (flipsOver plain named flip count v)
 
 -- some entry is true
 unfoldable pub anyTrue : List ℕ → List ℕ → ℕ → ℕ → Bool
@@ -81,3 +86,17 @@ anyTrue plain named count v = some (min count mostConstraints) (entryTrue plain 
 -- every held output is as it is held, and no entry is true
 unfoldable pub safeOver : ℕ → ℕ → List ℕ → List ℕ → ℕ → ℕ → Bool
 safeOver f0 f1 plain named count v = meets f1 f0 v && not (anyTrue plain named count v)
+
+-- ---- by a table
+
+-- safety
+abbrev pub safeIn : Table → ℕ → Bool
+safeIn t = safeOver (t .holds .f0) (t .holds .f1) (t .plain) (t .named) (t .count)
+
+-- a pass
+abbrev pub passIn : Table → ℕ → ℕ
+passIn t = passOver (t .plain) (t .named) (t .flip) (t .count)
+
+-- the walk from a request
+abbrev pub walkIn : Table → ℕ → Walk
+walkIn t request = walkBy (safeIn t) (passIn t) (t .limit) (startFrom (t .holds .f0) (t .holds .f1) request) 0

@@ -3,19 +3,22 @@
 -- Assumes nothing.
 use Prim.Native.Nat.{ℕ, zero, suc, _+_}
 use mathlib.Core.Bool.{Bool, cond}
-use mathlib.Core.List.{List, [], _∷_, _++_}
+use mathlib.Core.List.{List}
 use lib.Dec.{eqb}
 use lib.ListN.{getD, set}
-use Rattle.words.specs.Loop.{some, iterate}
+use Rattle.words.specs.Loop.{some, listed, iterate}
 
 -- vector v is marked
 unfoldable pub marked : List ℕ → ℕ → Bool
 marked marks v = eqb (getD marks v 0) 1
 
+-- the byte of vector v, marked where the test passes
+abbrev pub markOf : (ℕ → Bool) → ℕ → ℕ
+markOf ok v = cond (ok v) 1 0
+
 -- the first n vectors, each marked where the test passes
-unfoldable pub markedWhere : ℕ → (ℕ → Bool) → List ℕ
-markedWhere zero ok = []
-markedWhere (suc n) ok = markedWhere n ok ++ (cond (ok n) 1 0 ∷ [])
+abbrev pub markedWhere : ℕ → (ℕ → Bool) → List ℕ
+markedWhere n ok = listed n (markOf ok)
 
 -- one of the vectors after 0 to `limit` passes from v is marked
 unfoldable pub comesToMark : (ℕ → ℕ) → List ℕ → ℕ → ℕ → Bool

@@ -3,7 +3,8 @@ use mathlib.Core.Path.{ap, _∙_}
 use Prim.Native.Nat.{ℕ}
 use Rattle.scan.specs.declared.table.Table.{Table}
 use Rattle.scan.specs.Walk.{walkBy}
-use Rattle.scan.proofs.TableLaws.{safeIn, passIn, walkIn, table-walk}
+use Rattle.scan.specs.way.Table.{safeIn, passIn, walkIn}
+use Rattle.scan.proofs.TableLaws.{table-walk}
 use borrow.Author.Needs.{needs}
 use Rattle.machine.proofs.machine.walk_from.Statement.{statement}
 use Rattle.machine.proofs.machine.walk_from.Tie as tie

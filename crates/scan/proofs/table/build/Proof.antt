@@ -4,6 +4,7 @@ use Prim.Native.Nat.{_≤_}
 use native.Mathlib.Nat.{min-le-right}
 use Rattle.scan.specs.declared.set.Set.{Set}
 use Rattle.scan.specs.declared.holds.Holds.{Holds}
+use Rattle.scan.specs.Set.{mostOutputs, mostConstraints}
 use Rattle.scan.specs.Holds.{unheldBy, unheld}
 use Rattle.scan.specs.way.Table.{capped, tableUpto, tableOf}
 use borrow.Author.Needs.{needs}
@@ -11,9 +12,11 @@ use Rattle.scan.proofs.table.build.Statement.{statement}
 use Rattle.scan.proofs.table.build.Tie as tie
 
 -- the counts that are cut fit
-few : (s set : Set) → s ≡ capped set → (s .n ≤ 12) × (s .m ≤ 64)
-few s set e =
-    (subst (λ (x : Set). x .n ≤ 12) (sym e) (min-le-right (set .n) 12), subst (λ (x : Set). x .m ≤ 64) (sym e) (min-le-right (set .m) 64))
+few : (s set : Set) → s ≡ capped set → (s .n ≤ mostOutputs) × (s .m ≤ mostConstraints)
+few s set e = (
+  subst (λ (x : Set). x .n ≤ mostOutputs) (sym e) (min-le-right (set .n) mostOutputs),
+  subst (λ (x : Set). x .m ≤ mostConstraints) (sym e) (min-le-right (set .m) mostConstraints),
+)
 
 cap-requires : tie.Need-cap-requires
 cap-requires c κs = search needs

@@ -22,7 +22,7 @@ use Rattle.scan.proofs.table.fill.Tie as tie
 -- a table with these holds, pass limit and entries
 abbrev table : Holds → ℕ → ℕ → List ℕ → List ℕ → List ℕ → Table
 table h limit count plain named flip =
-    record { f0 = h .f0; f1 = h .f1; limit = limit; count = count; plain = plain; named = named; flip = flip }
+    record { holds = h; limit = limit; count = count; plain = plain; named = named; flip = flip }
 
 -- with the set's holds
 abbrev entered : Set → ℕ → ℕ → List ℕ → List ℕ → List ℕ → Table

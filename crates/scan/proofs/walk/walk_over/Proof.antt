@@ -40,7 +40,7 @@ abbrev μ-loop : tie.MeasureT-loop
 loop-holds : tie.Need-loop-holds Inv-loop μ-loop
 loop-holds c =
     let a = c .args in
-    (omega arith, ap (λ (k : ℕ). walk (a .t1 .f0) (a .t1 .f1) (a .t1) k (a .from) 0) (sub-zero (a .limit)))
+    (omega arith, ap (λ (k : ℕ). walk (a .t1 .holds .f0) (a .t1 .holds .f1) (a .t1) k (a .from) 0) (sub-zero (a .limit)))
 
 is-safe-requires : tie.Need-is-safe-requires Inv-loop μ-loop
 is-safe-requires c κs = search needs

@@ -8,10 +8,10 @@ use native.Mathlib.Omega.{arith}
 use lib.ListN.{length, set, drop, length-set}
 use lib.Seq.{drop-length}
 use Rattle.words.specs.Loop.{some}
+use Rattle.words.proofs.LoopLaws.{listed-none, listed-store}
 use Rattle.words.proofs.LoopTurns.{some-none, some-step}
 use Rattle.scan.specs.way.Table.{safeOver}
-use Rattle.verdict.specs.way.Marks.{markedWhere}
-use Rattle.verdict.proofs.MarksLaws.{where-none, where-store}
+use Rattle.verdict.specs.way.Marks.{markOf, markedWhere}
 use borrow.Author.Needs.{needs}
 use Rattle.verdict.proofs.marks.mark_safe.Statement.{statement}
 use Rattle.verdict.proofs.marks.mark_safe.Tie as tie
@@ -32,7 +32,7 @@ module _ (c : tie.Start Inv-loop μ-loop) where
 loop-holds : tie.Need-loop-holds Inv-loop μ-loop
 loop-holds c =
     let s = c .before in
-    (omega arith, refl, sym (some-none _), ap (λ (l : List ℕ). l ++ s .args .marks .now) (where-none (ok s)))
+    (omega arith, refl, sym (some-none _), ap (λ (l : List ℕ). l ++ s .args .marks .now) (listed-none (markOf (ok s))))
 
 cast-is-safe : tie.Need-cast-is-safe Inv-loop μ-loop
 cast-is-safe c = search needs
@@ -65,7 +65,7 @@ loop-again c =
       length-set (l .loop .marks) (l .loop .v) _ ∙ l .loop .inv .1,
       some-step (ok s) (l .loop .v) (l .loop .any) (q .is-safe .result) (c .either .result) (l .loop .inv .2) (q .is-safe .ensures) (c .either .ensures),
       ap (λ (k : List ℕ). set k (l .loop .v) (m .mark-if .result)) (l .loop .inv .3)
-          ∙ where-store (ok s) (l .loop .v) (m .mark-if .result) (s .args .marks .now) (omega arith)
+          ∙ listed-store (markOf (ok s)) 0 (l .loop .v) (m .mark-if .result) (s .args .marks .now) (omega arith)
           (m .mark-if .ensures ∙ ap (λ (b : Bool). cond b 1 0) (q .is-safe .ensures)),
     )
 

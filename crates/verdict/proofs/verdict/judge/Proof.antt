@@ -10,7 +10,8 @@ use borrow.Author.Tests.{not-true, not-false}
 use Rattle.words.proofs.ShiftLaws.{one-shl}
 use Rattle.scan.specs.Shape.{wellFormed}
 use Rattle.scan.proofs.ShapeLaws.{counts}
-use Rattle.verdict.proofs.JudgeLaws.{bad-set, short-scratch, judged, later-kept}
+use Rattle.verdict.specs.Judge.{scratchBytes}
+use Rattle.verdict.proofs.JudgeLaws.{scratch-is, bad-set, short-scratch, judged, later-kept}
 use borrow.Author.Needs.{needs}
 use Rattle.verdict.proofs.verdict.judge.Statement.{statement}
 use Rattle.verdict.proofs.verdict.judge.Tie as tie
@@ -34,10 +35,10 @@ shl-vectors c = omega (arith, counts _ (formed (c .before)) .n-le)
 abbrev shifted : ℕ → ℕ
 shifted n = (1 * 2 ^ n) % 2 ^ 64
 
-vectors-is : (c : tie.Else1) → shifted (c .before .before .before .args .set .n) ≡ 2 ^ c .before .before .before .args .set .n
-vectors-is c = one-shl 64 _ (omega (arith, counts _ (formed c) .n-le))
+vectors-is : (c : tie.Else1) → shifted (c .before .before .before .args .set .n) ≡ scratchBytes (c .before .before .before .args .set .n)
+vectors-is c = one-shl 64 _ (omega (arith, counts _ (formed c) .n-le)) ∙ sym (scratch-is _)
 
-part-is : (c : tie.Else1) → shifted (c .before .before .before .args .set .n) - 0 ≡ 2 ^ c .before .before .before .args .set .n
+part-is : (c : tie.Else1) → shifted (c .before .before .before .args .set .n) - 0 ≡ scratchBytes (c .before .before .before .args .set .n)
 part-is c = sub-zero (shifted (c .before .before .before .args .set .n)) ∙ vectors-is c
 
 returns-2 : tie.Need-returns-2
@@ -71,7 +72,7 @@ returns-3 c =
     let f = j .before .before in
     let e = f .before .before in
     let a = e .before .before .before .args in
-    let room : 2 ^ a .set .n ≤ length (a .scratch .now) = omega (arith, vectors-is e, f .if2 .left) in (
+    let room : scratchBytes (a .set .n) ≤ length (a .scratch .now) = omega (arith, vectors-is e, f .if2 .left) in (
       j .judge-words .ensures ∙ judged (a .set) (length (a .scratch .now)) (formed e) room,
       later-kept (a .set) (length (a .scratch .now)) (formed e) room (shifted (a .set .n) - 0) (part-is e) (j .judge-words .last .1 .0) (a .scratch .now)
           (j .judge-words .kept .1 .0 ∙ length-take-le (shifted (a .set .n) - 0) (a .scratch .now) (omega (arith, f .if2 .left))),

@@ -15,9 +15,12 @@ use Rattle.words.proofs.LoopLaws.{some-false-at}
 use Rattle.words.proofs.ShiftLaws.{one-shl}
 use Rattle.words.proofs.LoopTurns.{some-none, some-miss}
 use Rattle.scan.specs.declared.set.Set.{Set}
+use Rattle.scan.specs.Set.{mostReads, mostOutputs}
 use Rattle.scan.specs.Shape.{wellFormed}
 use Rattle.scan.proofs.ShapeLaws.{counts}
-use Rattle.verdict.specs.Judge.{hasVector, endless, fails}
+use Rattle.scan.specs.Constraint.{hasVector}
+use Rattle.verdict.specs.Judge.{endless, fails}
+use Rattle.verdict.proofs.JudgeLaws.{scratch-is}
 use Rattle.verdict.proofs.MeaningLaws.{judge-accepted, judge-no-vector, judge-no-end, passes}
 use Rattle.verdict.proofs.WordMarks.{Ready, marked-safe, settled-request}
 use borrow.Author.Needs.{needs}
@@ -37,7 +40,7 @@ Inv-words set marks₀ words requests any₀ w₀ g₀ marks any w g =
 abbrev μ-words : tie.MeasureT-words
 μ-words set marks₀ words requests any₀ w₀ g₀ marks any w g = words - w
 
-few : (c : tie.Start Inv-loop μ-loop Inv-words μ-words) → (c .args .set .r ≤ 16) × (c .args .set .n ≤ 12)
+few : (c : tie.Start Inv-loop μ-loop Inv-words μ-words) → (c .args .set .r ≤ mostReads) × (c .args .set .n ≤ mostOutputs)
 few c = let n = counts (c .args .set) (c .pre .0) in (n .r-le, n .n-le)
 
 cast-words : tie.Need-cast-words Inv-loop μ-loop Inv-words μ-words
@@ -56,16 +59,16 @@ words-holds : tie.Need-words-holds Inv-loop μ-loop Inv-words μ-words
 words-holds c =
     let s = c .before .before .before in
     let f = few s in
-    (one-shl 32 (s .args .set .r) (omega (arith, f)), one-shl 16 (s .args .set .n) (omega (arith, f)), omega arith, s .pre .1, some-none _)
+    (one-shl 32 (s .args .set .r) (omega (arith, f)), one-shl 16 (s .args .set .n) (omega (arith, f)), omega arith, s .pre .1 ∙ scratch-is (s .args .set .n), some-none _)
 
 build-requires : tie.Need-build-requires Inv-loop μ-loop Inv-words μ-words
 build-requires c κs = search needs
 
 mark-safe-requires : tie.Need-mark-safe-requires Inv-loop μ-loop Inv-words μ-words
 mark-safe-requires c κs =
-    let o = c .before .before .before .before .before .before in
+    let o = c .before .before .before .before .before .before .before in
     let s = o .before .before .before .before in
-    omega (arith, o .words .inv .3, pow-mono {i = s .args .set .n} {j = 12} (few s .1))
+    omega (arith, o .words .inv .3, pow-mono {i = s .args .set .n} {j = mostOutputs} (few s .1))
 
 -- ---- the places: a word, its table, the request
 
@@ -80,10 +83,10 @@ module _ (o : tie.At-words Inv-loop μ-loop Inv-words μ-words) where
 -- the word at which the safe vectors were marked, and its table
 module _ (m : tie.After-mark-safe Inv-loop μ-loop Inv-words μ-words) where
   abbrev word : tie.At-words Inv-loop μ-loop Inv-words μ-words
-  word = m .before .before .before .before .before .before .before
+  word = m .before .before .before .before .before .before .before .before
 
   abbrev built : tie.After-build Inv-loop μ-loop Inv-words μ-words
-  built = m .before .before .before .before .before
+  built = m .before .before .before .before .before .before
 
   -- what marking them tells of the word
   any-told : m .mark-safe .result ≡ hasVector (set word) (word .words .w)
@@ -127,7 +130,7 @@ settle-requires c κs = search needs
 add-g : tie.Need-add-g Inv-loop μ-loop Inv-words μ-words
 add-g c =
     let q = c .before .before .before in
-    omega (arith, fits q, pow-mono {i = set (word (safes q)) .n} {j = 12} (few (word (safes q) .before .before .before .before) .1))
+    omega (arith, fits q, pow-mono {i = set (word (safes q)) .n} {j = mostOutputs} (few (word (safes q) .before .before .before .before) .1))
 
 loop-less : tie.Need-loop-less Inv-loop μ-loop Inv-words μ-words
 loop-less c = search needs
@@ -147,7 +150,12 @@ loop-again c =
 add-w : tie.Need-add-w Inv-loop μ-loop Inv-words μ-words
 add-w c =
     let o = word (c .before .before .before .before .before) in
-    omega (arith, o .words .inv .0, c .before .before .before .before .before .before .before .before .before .before .before .words-test .taken, pow-mono {i = set o .r} {j = 16} (few (o .before .before .before .before) .0))
+    omega (
+      arith,
+      o .words .inv .0,
+      c .before .before .before .before .before .before .before .before .before .before .before .before .words-test .taken,
+      pow-mono {i = set o .r} {j = mostReads} (few (o .before .before .before .before) .0),
+    )
 
 words-less : tie.Need-words-less Inv-loop μ-loop Inv-words μ-words
 words-less c = search needs
@@ -185,26 +193,26 @@ by-way c all none never =
     (⊎-elim
     (λ x.
     let told = marked-safe (set o) (formed o) (o .words .w) (x .1 .result) (x .1 .ensures) (length (o .words .marks))
-    (x .6 .result) _ (o .words .inv .3) (x .6 .ensures .0) (x .6 .ensures .1) in
-    let off = not-true _ (x .9 .taken) in
-    none (ap length (x .10) ∙ told .1 .long) (x .11 ∙ off) (sym (told .0) ∙ off))
+    (x .7 .result) _ (o .words .inv .3) (x .7 .ensures .0) (x .7 .ensures .1) in
+    let off = not-true _ (x .10 .taken) in
+    none (ap length (x .11) ∙ told .1 .long) (x .12 ∙ off) (sym (told .0) ∙ off))
     (λ x.
     let told = marked-safe (set o) (formed o) (o .words .w) (x .1 .result) (x .1 .ensures) (length (o .words .marks))
-    (x .6 .result) _ (o .words .inv .3) (x .6 .ensures .0) (x .6 .ensures .1) in
-    let on = not-false _ (x .9 .left) in
-    let below : x .10 .g < 2 ^ set o .n = omega (arith, o .words .inv .1, x .11 .taken) in
-    let ended = settled-request (set o) (formed o) (o .words .w) (x .1 .result) (x .1 .ensures) (x .10 .marks) (x .10 .inv .1) (x .10 .g) below
-    (x .12 .result) (x .12 .ensures) (x .18 .result) _ (x .18 .ensures .0) (x .18 .ensures .1) in
-    let off = not-true _ (x .21 .taken) in
-    never (ap length (x .22) ∙ ended .1 .long) (x .23 ∙ on) (sym (told .0) ∙ on)
-    (subst (λ (k : ℕ). k < 2 ^ set o .n) (sym (x .24)) below)
-    (subst (λ (k : ℕ). some k (endless (set o) (o .words .w)) ≡ false) (sym (x .24)) (x .10 .inv .2))
-    (ap (endless (set o) (o .words .w)) (x .24) ∙ not-false _ (sym (ended .0) ∙ off))))
+    (x .7 .result) _ (o .words .inv .3) (x .7 .ensures .0) (x .7 .ensures .1) in
+    let on = not-false _ (x .10 .left) in
+    let below : x .11 .g < 2 ^ set o .n = omega (arith, o .words .inv .1, x .12 .taken) in
+    let ended = settled-request (set o) (formed o) (o .words .w) (x .1 .result) (x .1 .ensures) (x .11 .marks) (x .11 .inv .1) (x .11 .g) below
+    (x .13 .result) (x .13 .ensures) (x .19 .result) _ (x .19 .ensures .0) (x .19 .ensures .1) in
+    let off = not-true _ (x .22 .taken) in
+    never (ap length (x .23) ∙ ended .1 .long) (x .24 ∙ on) (sym (told .0) ∙ on)
+    (subst (λ (k : ℕ). k < 2 ^ set o .n) (sym (x .25)) below)
+    (subst (λ (k : ℕ). some k (endless (set o) (o .words .w)) ≡ false) (sym (x .25)) (x .11 .inv .2))
+    (ap (endless (set o) (o .words .w)) (x .25) ∙ not-false _ (sym (ended .0) ∙ off))))
     (c .words-test .came)
 
 long : (c : tie.Left-words Inv-loop μ-loop Inv-words μ-words) → length (c .words-test .marks) ≡ length (c .before .before .before .before .before .args .marks .now)
 long c =
-    by-way c (λ l h. l) (λ l a v. l) (λ l a v h b e. l) ∙ sym (c .before .before .before .before .before .pre .1)
+    by-way c (λ l h. l) (λ l a v. l) (λ l a v h b e. l) ∙ sym (c .before .before .before .before .before .pre .1 ∙ scratch-is (set (c .before) .n))
 
 -- no word before this one fails
 before : (o : tie.At-words Inv-loop μ-loop Inv-words μ-words) → (u : ℕ) → u < o .words .w → fails (set o) u ≡ false
