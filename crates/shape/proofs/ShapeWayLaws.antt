@@ -43,6 +43,11 @@ module _ (sensors n k : ℕ) where
 
 -- ---- told by the lists, and told by the points
 
+module _ (own : List (List ℕ)) (outputs : List OutputPoint) (owned : OutputNames own outputs) where
+  pub first-outputs : (j : ℕ) (name : List ℕ) → j ≤ mostOutputs → firstName own j name ≡ firstOutput outputs j name
+  unfolding firstName firstOutput nameIs outputNamed
+  first-outputs j name h = first-cong j (nameIs own name) (outputNamed outputs name) (λ k l. ap (λ (x : List ℕ). sameName x name) (owned k (omega arith)))
+
 module _ (names : List (List ℕ)) (reads : List ReadPoint) (named : ReadNames names reads) where
   pub first-reads : (i : ℕ) (name : List ℕ) → i ≤ 16 → firstName names i name ≡ firstRead reads i name
   unfolding firstName firstRead nameIs readNamed
@@ -65,14 +70,10 @@ module _ (names : List (List ℕ)) (reads : List ReadPoint) (named : ReadNames n
       (by-kind n k (p .kind) h) (first-reads k (p .name) (omega arith))
 
   module _ (own : List (List ℕ)) (outputs : List OutputPoint) (owned : OutputNames own outputs) where
-    first-outputs : (i : ℕ) (name : List ℕ) → i ≤ 12 → firstName own i name ≡ firstOutput outputs i name
-    unfolding firstName firstOutput nameIs outputNamed
-    first-outputs i name h = first-cong i (nameIs own name) (outputNamed outputs name) (λ k l. ap (λ (x : List ℕ). sameName x name) (owned k (omega arith)))
-
     -- a name is used by the lists of names exactly where it is used by the points
     pub used-names : (i j : ℕ) (name : List ℕ) → i ≤ mostReads → j ≤ mostOutputs → nameUsed names i own j name ≡ isUsed reads i outputs j name
     unfolding nameUsed isUsed
-    used-names i j name h l = ap₂ (λ (a b : ℕ). ltb a i || ltb b j) (first-reads i name h) (first-outputs j name l)
+    used-names i j name h l = ap₂ (λ (a b : ℕ). ltb a i || ltb b j) (first-reads i name h) (first-outputs own outputs owned j name l)
 
     by-output-place : (r n j : ℕ) → r ≤ 16 → j < 12 → outputPlaceBy names r own n j ≡ outputPlace reads r outputs n j
     unfolding outputPlace outputBy outputOk
@@ -80,7 +81,7 @@ module _ (names : List (List ℕ)) (reads : List ReadPoint) (named : ReadNames n
         let name = outputPoint outputs j .name in
         ap (λ (x : List ℕ). cond (ltb j n) (every (nameOk x ∷ eqb (firstName names r x) r ∷ eqb (firstName own j x) j ∷ [])) (nameZero x)) (owned j h)
         ∙ ap₂ (λ (a b : ℕ). cond (ltb j n) (every (nameOk name ∷ eqb a r ∷ eqb b j ∷ [])) (nameZero name))
-        (first-reads r name hr) (first-outputs j name (omega arith))
+        (first-reads r name hr) (first-outputs own outputs owned j name (omega arith))
 
     pub by-outputs : (r n : ℕ) → r ≤ 16 → all 12 (outputPlaceBy names r own n) ≡ all 12 (outputPlace reads r outputs n)
     by-outputs r n hr = all-cong 12 _ _ (λ j h. by-output-place r n j hr h)

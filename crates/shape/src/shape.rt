@@ -1,6 +1,5 @@
 // When a set is well formed: when some file loads to it.
-use super::names::first_of_outputs;
-use super::names::first_of_reads;
+use super::names::first_of;
 use super::names::is_name;
 use super::names::is_zero_name;
 use super::names::names_of_outputs;
@@ -91,7 +90,7 @@ fn is_read_ok(
     let name = p.name;
     both(
         is_kind_ok(sensors, n, k, kind),
-        both(is_name(name), first_of_reads(names, k, name) == k),
+        both(is_name(name), first_of(names, k, name) == k),
     )
 }
 
@@ -155,8 +154,8 @@ fn is_output_ok<'a>(
     both(
         is_name(name),
         both(
-            first_of_reads(reads, r, name) == r,
-            first_of_outputs(outputs, j, name) == j,
+            first_of(reads, r, name) == r,
+            first_of(outputs, j, name) == j,
         ),
     )
 }
