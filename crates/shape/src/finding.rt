@@ -9,6 +9,7 @@ use scan::NAME_PLACES;
 use scan::Set;
 ghost use mathlib.Core.Path.{_≡_};
 ghost use Prim.Native.Nat.{_≤_};
+ghost use Rattle.scan.specs.Set.{mostReads, mostOutputs};
 ghost use Rattle.shape.specs.Finding.{findPadded, findOf};
 
 // A read point or an output, by its number; or why there is none.
@@ -22,7 +23,7 @@ pub enum Found {
 
 // The point whose name fills the eight places so.
 fn find_padded(set: Set, name: [u8; NAME_PLACES]) -> Found
-    requires { ⌜ (set .r ≤ 16) × (set .n ≤ 12) ⌝ }
+    requires { ⌜ (set .r ≤ mostReads) × (set .n ≤ mostOutputs) ⌝ }
     ensures { λ r. ⌜ r ≡ findPadded set name ⌝ }
 {
     let r = set.r;

@@ -127,7 +127,7 @@ fn is_same_name(a: [u8; NAME_PLACES], b: [u8; NAME_PLACES]) -> bool
 
 // The first of the first i read points that has the name, or i.
 pub fn first_read(reads: [ReadPoint; MOST_READS], i: usize, name: [u8; NAME_PLACES]) -> usize
-    requires { ⌜ i ≤ 16 ⌝ }
+    requires { ⌜ i ≤ mostReads ⌝ }
     ensures { λ r. ⌜ r ≡ firstRead reads i name ⌝ }
 {
     let mut k: usize = 0;
@@ -148,7 +148,7 @@ pub fn first_output(
     j: usize,
     name: [u8; NAME_PLACES],
 ) -> usize
-    requires { ⌜ j ≤ 12 ⌝ }
+    requires { ⌜ j ≤ mostOutputs ⌝ }
     ensures { λ r. ⌜ r ≡ firstOutput outputs j name ⌝ }
 {
     let mut k: usize = 0;
@@ -228,7 +228,7 @@ pub fn is_name_used<'a>(
 
 // Whether one of the first i read points or of the first j outputs of the set has the name.
 pub fn is_used(set: Set, i: usize, j: usize, name: [u8; NAME_PLACES]) -> bool
-    ensures { λ r. ⌜ r ≡ isUsed (set .reads) (min i 16) (set .outputs) (min j 12) name ⌝ }
+    ensures { λ r. ⌜ r ≡ isUsed (set .reads) (min i mostReads) (set .outputs) (min j mostOutputs) name ⌝ }
 {
     let reads = set.reads;
     let outputs = set.outputs;
