@@ -1,12 +1,12 @@
--- `shape::names::first_of_outputs` meets its contract. The loop's invariant: none of the names before k is the name. Assumes nothing.
+-- `shape::names::first_of` meets its contract. The loop's invariant: none of the names before k is the name. Assumes nothing.
 use mathlib.Core.Path.{sym, _∙_}
 use Prim.Native.Nat.{_-_}
 use denote.Ref.{now}
 use Rattle.shape.specs.way.Names.{nameIs, firstName}
 use Rattle.words.proofs.LoopTurns.{Missed, missed-none, missed-one, missed-here, missed-all}
 use borrow.Author.Needs.{needs}
-use Rattle.shape.proofs.names.first_of_outputs.Statement.{statement}
-use Rattle.shape.proofs.names.first_of_outputs.Tie as tie
+use Rattle.shape.proofs.names.first_of.Statement.{statement}
+use Rattle.shape.proofs.names.first_of.Tie as tie
 
 abbrev Inv-loop : tie.InvT-loop
 Inv-loop names i name k₀ k = Missed i (nameIs names name) k
@@ -20,8 +20,8 @@ loop-holds c = missed-none _ _
 mul-own : tie.Need-mul-own Inv-loop μ-loop
 mul-own c = search needs
 
-element-copy-out-own : tie.Need-element-copy-out-own Inv-loop μ-loop
-element-copy-out-own c = search needs
+shared-slice-copy-out-own : tie.Need-shared-slice-copy-out-own Inv-loop μ-loop
+shared-slice-copy-out-own c = search needs
 
 is-same-name-requires : tie.Need-is-same-name-requires Inv-loop μ-loop
 is-same-name-requires c κs = search needs
@@ -55,15 +55,15 @@ returns-2 c =
     let a = c .before .before .args in
     missed-all (a .i) (nameIs (now (a .names)) (a .name)) (l .k) (l .inv) (c .loop-test .left)
 
-pub first-of-outputs-spec : {M : Type 1} → statement M
-first-of-outputs-spec =
+pub first-of-spec : {M : Type 1} → statement M
+first-of-spec =
     tie.close
     (tie.spec
     Inv-loop
     μ-loop
     loop-holds
     mul-own
-    element-copy-out-own
+    shared-slice-copy-out-own
     is-same-name-requires
     returns
     add-k
