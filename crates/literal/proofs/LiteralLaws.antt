@@ -1,15 +1,20 @@
 -- Steps of the definitions on literals.
 -- Assumes nothing.
 use mathlib.Core.Path.{_≡_}
-use mathlib.Core.Bool.{true, false}
+use mathlib.Core.Bool.{Bool, true, false, cond}
 use mathlib.Core.List.{List, _∷_}
 use Prim.Native.Nat.{ℕ, _+_, _≤_, _<_}
 use lib.Dec.{ltb}
 use borrow.Author.Tests.{le-leb, lt-leb, ltb-true}
 use Rattle.words.proofs.BoolLaws.{and-true}
 use Rattle.scan.specs.declared.set.Constraint.{Constraint}
+use Rattle.scan.specs.Set.{mostReads, mostOutputs}
 use Rattle.literal.specs.declared.literal.Said.{Said}
 use Rattle.literal.specs.Literal.{isLiteral, place, withLiteral, refusedLiterals, literalsFrom}
+
+-- how many outputs or read points a constraint has room for
+abbrev pub room : Bool → ℕ
+room out = cond out mostOutputs mostReads
 
 -- the number of an output literal is an output's
 pub output-below : (l : Said) (r n : ℕ) → isLiteral l r n ≡ true → l .out ≡ true → l .number < n

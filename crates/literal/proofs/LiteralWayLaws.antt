@@ -21,7 +21,7 @@ use Rattle.literal.specs.declared.literal.Said.{Said}
 use Rattle.literal.specs.declared.literal.Literals.{Literals}
 use Rattle.literal.specs.Literal.{narrow, narrows, torn, place, isLiteral, withBit, withLiteral, lastLiteral, literalsFrom}
 use Rattle.literal.specs.way.Literal.{saidAt, signBits, bitAt, inWord, part, ofWord}
-use Rattle.literal.proofs.LiteralLaws.{output-below, one-more}
+use Rattle.literal.proofs.LiteralLaws.{room, output-below, one-more}
 
 -- ---- what a body says at a place
 
@@ -85,22 +85,18 @@ module _ (from long w k : ℕ) where
 
 -- ---- a literal more
 
--- how many read points or outputs a constraint has room for
-abbrev pub roomOf : Bool → ℕ
-roomOf out = cond out mostOutputs mostReads
-
 -- a literal's point has room in a constraint
-pub literal-fits : (l : Said) (r n : ℕ) → isLiteral l r n ≡ true → n ≤ mostOutputs → l .number < mostReads → l .number < roomOf (l .out)
+pub literal-fits : (l : Said) (r n : ℕ) → isLiteral l r n ≡ true → n ≤ mostOutputs → l .number < mostReads → l .number < room (l .out)
 literal-fits l r n e h s = go (l .out) refl
   where
-    go : (o : Bool) → l .out ≡ o → l .number < roomOf o
+    go : (o : Bool) → l .out ≡ o → l .number < room o
     go true o = let b = output-below l r n e o in omega arith
     go false o = s
 
-pub place-below : (l : Said) → l .number < roomOf (l .out) → place l < signBits
+pub place-below : (l : Said) → l .number < room (l .out) → place l < signBits
 place-below l h = go (l .out) h
   where
-    go : (o : Bool) → l .number < roomOf o → cond o (mostReads + l .number) (l .number) < signBits
+    go : (o : Bool) → l .number < room o → cond o (mostReads + l .number) (l .number) < signBits
     go true s = omega arith
     go false s = omega arith
 
@@ -110,7 +106,7 @@ bit-below true at h = omega arith
 bit-below false at h = omega arith
 
 -- a literal more in the word, and its rank if it is an output's, is a literal more in their constraint
-pub literal-word : (w : ℕ) (ranks : List ℕ) (l : Said) → l .number < roomOf (l .out)
+literal-word : (w : ℕ) (ranks : List ℕ) (l : Said) → l .number < room (l .out)
     → ofWord (inWord w (l .negated) (place l)) (cond (l .out) (store ranks (l .number) (l .rank)) ranks) ≡ withLiteral (ofWord w ranks) l
 unfolding withLiteral
 literal-word w ranks l fits = go (l .out) (l .negated) fits
@@ -124,7 +120,7 @@ literal-word w ranks l fits = go (l .out) (l .negated) fits
     with-rank : List ℕ
     with-rank = store ranks k (l .rank)
 
-    go : (out negated : Bool) → k < roomOf out → ofWord (inWord w negated (cond out (mostReads + k) k)) (cond out with-rank ranks)
+    go : (out negated : Bool) → k < room out → ofWord (inWord w negated (cond out (mostReads + k) k)) (cond out with-rank ranks)
         ≡ cond out
         (cond negated
         (record { «read_plain» = c .«read_plain»; «read_negated» = c .«read_negated»; «out_plain» = c .«out_plain»; «out_negated» = withBit (c .«out_negated») k; ranks = with-rank })
@@ -174,7 +170,7 @@ module _ (r n next w : ℕ) (ranks body : List ℕ) (i : ℕ) (h : i < length bo
   here = inv ∙ ap (literalsFrom r n next (ofWord w ranks)) (narrows-next body i h ∙ ap (λ (x : Said). x ∷ narrows (drop (i + 2) body)) (sym said))
 
   -- its bit in the word, and the ranks with its own if it is an output's
-  pub turned : isLiteral l r n ≡ true → next ≤ place l → l .number < roomOf (l .out)
+  pub turned : isLiteral l r n ≡ true → next ≤ place l → l .number < room (l .out)
       → (at : ℕ) → at ≡ place l → (after : ℕ) → after ≡ inWord w (l .negated) at
       → (ranked : List ℕ) → cond (l .out) (store ranks (l .number) (l .rank)) ranks ≡ ranked
       → whole ≡ literalsFrom r n (at + 1) (ofWord after ranked) (narrows (drop (i + 2) body))

@@ -14,7 +14,8 @@ use Rattle.words.specs.Word.{bit}
 use Rattle.scan.specs.declared.set.Constraint.{Constraint}
 use Rattle.scan.specs.Set.{mostReads, mostOutputs, rank}
 use Rattle.literal.specs.declared.literal.Said.{Said}
-use Rattle.setfile.proofs.LiteralPlaces.{said, placeOf, room, placesEnd, mask}
+use Rattle.literal.proofs.LiteralLaws.{room}
+use Rattle.setfile.proofs.LiteralPlaces.{said, placeOf, placesEnd, mask}
 
 -- ---- lists one after the other
 

@@ -15,7 +15,8 @@ use Rattle.header.specs.Bytes.{Bytes}
 use Rattle.literal.specs.declared.literal.Said.{Said}
 use Rattle.literal.specs.Literal.{isOutput, isNegated, spare, fourBits, narrow, narrows}
 use Rattle.writer.specs.Write.{readLiteral, outputLiteral, joined, literalBody}
-use Rattle.setfile.proofs.LiteralPlaces.{by-four, said, room, mask}
+use Rattle.literal.proofs.LiteralLaws.{room}
+use Rattle.setfile.proofs.LiteralPlaces.{by-four, said, mask}
 use Rattle.setfile.proofs.BodyPlaces.{upTo, worth, saidIf, saidOf, allSaid, by-kind}
 
 -- ---- one literal
@@ -28,7 +29,7 @@ byte false true k = 0x80 + k
 byte false false k = k
 
 -- A literal's two bytes say what they were made of, where its number has four bits.
-pub narrow-byte : (k x : ℕ) → k < 16 → (o g : Bool) → narrow (byte o g k) x ≡ said o g k x
+narrow-byte : (k x : ℕ) → k < 16 → (o g : Bool) → narrow (byte o g k) x ≡ said o g k x
 narrow-byte k x h =
     by-four (λ (o g : Bool). narrow (byte o g k) x ≡ said o g k x)
     (says (0xC0 + k) true true (omega arith) (eq-eqb ((0xC0 + k) / 2 ^ 6 % 2) 1 (omega arith)) (eq-eqb ((0xC0 + k) / 2 ^ 7) 1 (omega arith)) (omega arith))

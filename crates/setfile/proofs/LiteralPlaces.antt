@@ -34,11 +34,6 @@ said o g k x = record { clear = true; out = o; negated = g; number = k; rank = x
 abbrev pub placeOf : Bool → ℕ → ℕ
 placeOf o k = cond o (mostReads + k) k
 
--- how many outputs or read points a constraint has room for
-abbrev pub room : Bool → ℕ
-room true = mostOutputs
-room false = mostReads
-
 -- the places of literals are below this
 abbrev pub placesEnd : ℕ
 placesEnd = mostReads + mostOutputs
@@ -102,7 +97,7 @@ or-none false = refl
 
 module _ (k x : ℕ) (c : Constraint) where
   -- the masks of the constraint with a literal more
-  pub mask-added : (o g p q : Bool) → mask p q (added o g k x c) ≡ cond (alike o p && alike g q) (withBit (mask p q c) k) (mask p q c)
+  mask-added : (o g p q : Bool) → mask p q (added o g k x c) ≡ cond (alike o p && alike g q) (withBit (mask p q c) k) (mask p q c)
   mask-added =
       by-four (λ (o g : Bool). (p q : Bool) → mask p q (added o g k x c) ≡ cond (alike o p && alike g q) (withBit (mask p q c) k) (mask p q c))
       (by-four (λ (p q : Bool). mask p q (added true true k x c) ≡ cond (p && q) (withBit (mask p q c) k) (mask p q c)) refl refl refl refl)

@@ -18,7 +18,8 @@ use Rattle.scan.proofs.ShapeLaws.{Masks}
 use Rattle.literal.specs.declared.literal.Said.{Said}
 use Rattle.literal.specs.Literal.{narrows, goodLiterals, literalsFrom, literalsOf}
 use Rattle.writer.specs.Write.{literalBody}
-use Rattle.setfile.proofs.LiteralPlaces.{said, placeOf, room, placesEnd, mask, added, alike, alike-true, unlike, bit-hit, bit-sign, bit-miss, rank-hit, rank-miss}
+use Rattle.literal.proofs.LiteralLaws.{room}
+use Rattle.setfile.proofs.LiteralPlaces.{said, placeOf, placesEnd, mask, added, alike, alike-true, unlike, bit-hit, bit-sign, bit-miss, rank-hit, rank-miss}
 use Rattle.setfile.proofs.BodyPlaces.{upTo, worth, saidIf, saidOf, placed, allSaid, placed-at, by-place}
 use Rattle.setfile.proofs.LiteralBytes.{narrows-back, body-said}
 use Rattle.setfile.proofs.ConstraintBits.{Fine, fine}

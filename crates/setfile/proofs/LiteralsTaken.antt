@@ -25,7 +25,8 @@ use Rattle.literal.specs.declared.literal.Taken.the-variants.{Good}
 use Rattle.header.specs.Bytes.{Bytes}
 use Rattle.literal.specs.Literal.{narrows, place, isLiteral, withLiteral, refusedLiterals, goodLiterals, literalThen, literalsFrom, literalsOf}
 use Rattle.writer.specs.Write.{literalBody}
-use Rattle.setfile.proofs.LiteralPlaces.{said, said-is, placeOf, room, placesEnd, mask, added, with-added, alike, alike-true, bit-hit, bit-sign, bit-else, bit-miss, rank-hit, rank-miss}
+use Rattle.literal.proofs.LiteralLaws.{room}
+use Rattle.setfile.proofs.LiteralPlaces.{said, said-is, placeOf, placesEnd, mask, added, with-added, alike, alike-true, bit-hit, bit-sign, bit-else, bit-miss, rank-hit, rank-miss}
 use Rattle.setfile.proofs.BodyPlaces.{upTo, placed, allSaid, upto-same}
 use Rattle.setfile.proofs.LiteralBytes.{bytesOf, AllClear, AllRanked, bytes-back, narrows-ranked, body-said}
 use Rattle.setfile.proofs.OneLiteral.{size, Below, below-zero, below-added, blank-place, said-added, literal-is}

@@ -16,8 +16,8 @@ use Rattle.scan.specs.declared.set.Constraint.{Constraint}
 use Rattle.scan.specs.Set.{mostReads, mostOutputs, rank, zeroConstraint}
 use Rattle.literal.specs.declared.literal.Said.{Said}
 use Rattle.literal.specs.Literal.{isLiteral, literalsFrom}
-use Rattle.literal.proofs.LiteralLaws.{one-more}
-use Rattle.setfile.proofs.LiteralPlaces.{by-four, said, placeOf, room, placesEnd, mask, added, with-added, alike-true, bit-hit, bit-sign, bit-miss, mask-wide, rank-hit, rank-miss, ranks-added}
+use Rattle.literal.proofs.LiteralLaws.{room, one-more}
+use Rattle.setfile.proofs.LiteralPlaces.{by-four, said, placeOf, placesEnd, mask, added, with-added, alike-true, bit-hit, bit-sign, bit-miss, mask-wide, rank-hit, rank-miss, ranks-added}
 use Rattle.setfile.proofs.BodyPlaces.{worth, saidIf, saidOf, placed, allSaid, placed-at, by-place, upto-add}
 
 -- how many outputs or read points a set has

@@ -12,8 +12,8 @@ use Rattle.words.proofs.BoolLaws.{cond-true, cond-false}
 use Rattle.scan.specs.Set.{mostReads, mostOutputs}
 use Rattle.literal.specs.Literal.{narrows, isLiteral, goodLiterals, lastLiteral, literalsOf, literalsFrom}
 use Rattle.literal.specs.way.Literal.{signBits, ofWord}
-use Rattle.literal.proofs.LiteralLaws.{not-literal, not-rising}
-use Rattle.literal.proofs.LiteralWayLaws.{said-below, roomOf, literal-fits, place-below, literals-end, here, turned}
+use Rattle.literal.proofs.LiteralLaws.{room, not-literal, not-rising}
+use Rattle.literal.proofs.LiteralWayLaws.{said-below, literal-fits, place-below, literals-end, here, turned}
 use Rattle.literal.proofs.literal.literals_of.Statement.{statement}
 use Rattle.literal.proofs.literal.literals_of.Tie as tie
 
@@ -74,7 +74,7 @@ said c =
     rw (q .said-at .ensures) (said-below (now (q .before .before .before .before .before .args .body)) (q .before .before .loop .i))
 
 -- the literal's number, and its place
-fits : (c : tie.Else1 Inv-loop μ-loop) → c .before .before .said-at .result .number < roomOf (c .before .before .said-at .result .out)
+fits : (c : tie.Else1 Inv-loop μ-loop) → c .before .before .said-at .result .number < room (c .before .before .said-at .result .out)
 fits c =
     let q = c .before .before in
     let d = q .before .before in
@@ -113,7 +113,7 @@ add-i c = omega arith
 array-write-ranks : tie.Need-array-write-ranks Inv-loop μ-loop
 array-write-ranks c =
     let e = c .before .before .before .before in
-    subst (λ o. e .before .before .said-at .result .number < roomOf o) (c .if3 .taken) (fits e)
+    subst (λ o. e .before .before .said-at .result .number < room o) (c .if3 .taken) (fits e)
 
 loop-less : tie.Need-loop-less Inv-loop μ-loop
 loop-less c = omega arith
