@@ -35,13 +35,13 @@ cast-t17 c = search needs
 returns : tie.Need-returns
 returns c =
     let w = c .args .word in
-    λ i. record {
-      «read_plain» = ap (λ x. x % 2 ^ mostReads) (sym (div-one w)) i;
+    ap (λ x. record {
+      «read_plain» = x % 2 ^ mostReads;
       «read_negated» = part signBits mostReads w;
       «out_plain» = part mostReads mostOutputs w;
       «out_negated» = part (signBits + mostReads) mostOutputs w;
       ranks = c .args .ranks;
-    }
+    }) (sym (div-one w))
 
 pub constraint-of-spec : {M : Type 1} → statement M
 constraint-of-spec =

@@ -10,10 +10,14 @@ returns-2 : tie.Need-returns-2
 returns-2 c = rw (not-false (c .before .before .before .before .args .l .clear) (c .before .before .if1 .left), c .before .if2 .taken)
 
 returns-3 : tie.Need-returns-3
-returns-3 c = rw (not-false (c .before .before .before .before .before .args .l .clear) (c .before .before .before .if1 .left), c .before .before .if2 .left, ne-eqb _ _ (c .if3 .taken))
+returns-3 c =
+    let l = c .before .before .before .before .before .args .l in
+    rw (not-false (l .clear) (c .before .before .before .if1 .left), c .before .before .if2 .left, ne-eqb (l .rank) 0 (c .if3 .taken))
 
 returns-4 : tie.Need-returns-4
-returns-4 c = rw (not-false (c .before .before .before .before .before .before .args .l .clear) (c .before .before .before .before .if1 .left), c .before .before .before .if2 .left, eq-eqb _ _ (c .before .if3 .left))
+returns-4 c =
+    let l = c .before .before .before .before .before .before .args .l in
+    rw (not-false (l .clear) (c .before .before .before .before .if1 .left), c .before .before .before .if2 .left, eq-eqb (l .rank) 0 (c .before .if3 .left))
 
 pub is-literal-spec : {M : Type 1} → statement M
 is-literal-spec = tie.close (tie.spec returns returns-2 returns-3 returns-4)

@@ -162,7 +162,7 @@ refused-literals-requires-3 c κs = search needs
 returns-3 : tie.Need-returns-3 Inv-loop μ-loop
 returns-3 c =
     let d = c .before .before .before in
-    c .refused-literals3 .ensures ∙ sym (ended (c .before .before) ∙ simp (le-leb (d .loop .next) mostReads (c .before .if4 .taken))) ∙ whole d
+    c .refused-literals3 .ensures ∙ sym (ended (c .before .before) ∙ simp (le-leb (d .loop .next) mostReads (omega (arith, c .before .if4 .taken)))) ∙ whole d
 
 constraint-of-requires : tie.Need-constraint-of-requires Inv-loop μ-loop
 constraint-of-requires c κs = search needs
@@ -170,7 +170,7 @@ constraint-of-requires c κs = search needs
 returns-4 : tie.Need-returns-4 Inv-loop μ-loop
 returns-4 c =
     let d = c .before .before .before in
-    (λ i. goodLiterals (c .constraint-of .ensures i)) ∙ sym (ended (c .before .before) ∙ simp (lt-leb (d .loop .next) mostReads (c .before .if4 .left))) ∙ whole d
+    (λ i. goodLiterals (c .constraint-of .ensures i)) ∙ sym (ended (c .before .before) ∙ simp (lt-leb (d .loop .next) mostReads (omega (arith, c .before .if4 .left)))) ∙ whole d
 
 pub literals-of-spec : {M : Type 1} → statement M
 literals-of-spec =
