@@ -15,7 +15,7 @@ use Rattle.scan.proofs.ShapeLaws.{counts-told}
 use Rattle.header.specs.declared.header.Header.{Header}
 use Rattle.header.specs.declared.header.Header.the-variants.{Refused as Stopped, Field}
 use Rattle.literal.specs.declared.literal.Taken.{Taken}
-use Rattle.literal.specs.declared.literal.Taken.the-variants.{Refused as Failed, Next}
+use Rattle.literal.specs.declared.literal.Taken.the-variants.{Refused as Failed, Good as Passed}
 use Rattle.loader.specs.declared.point.Point.{Point}
 use Rattle.loader.specs.declared.point.Point.the-variants.{Refused as Denied, Good}
 use Rattle.loader.specs.declared.loader.Progress.{Progress}
@@ -144,7 +144,7 @@ module _ (s : List ℕ) where
 
   constraint-done-adds : (at len : ℕ) (set : Set) (t : Taken) (x : Constraint) (q : ℕ) → constraintDone at len set t x .progress ≡ At q → (constraintDone at len set t x .set .n ≡ set .n) × (constraintDone at len set t x .set .m ≡ set .m + 1)
   constraint-done-adds at len set (Failed number) x q e = absurd (never number at q e)
-  constraint-done-adds at len set (Next next) x q e = (refl, refl)
+  constraint-done-adds at len set Passed x q e = (refl, refl)
 
   -- a constraint more
   constraint-adds : (at len : ℕ) (set : Set) (l : Loading) (q : ℕ) → l ≡ constraintAt s at len set → l .progress ≡ At q → (l .set .n ≡ set .n) × (l .set .m ≡ set .m + 1)

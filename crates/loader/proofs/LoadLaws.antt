@@ -15,7 +15,7 @@ use Rattle.scan.specs.declared.set.Kind.{Kind}
 use Rattle.scan.specs.declared.set.Kind.the-variants.{Sensor, PastOutput, PastSensor}
 use Rattle.scan.specs.declared.set.Set.{Set}
 use Rattle.shape.specs.declared.names.Spelled.{Spelled}
-use Rattle.scan.specs.Set.{readPoint}
+use Rattle.scan.specs.Set.{mostOutputs, readPoint}
 use Rattle.shape.specs.Spelling.{spelling}
 use Rattle.scan.specs.Names.{isUsed}
 use Rattle.scan.specs.Shape.{countTests, isSensor}
@@ -189,8 +189,8 @@ module _ (s : List ℕ) (at : ℕ) (set : Set) (j : ℕ) where
 
 -- ---- a constraint, by its literals
 
-pub constraint-done : (s : List ℕ) (at len : ℕ) (set : Set) (f : Literals) (t : Taken) → set .n ≤ 12
-    → f ≡ literalsOf (set .r) (min (set .n) 12) (take (at + 3 + len - (at + 3)) (drop (at + 3) s)) → f .taken ≡ t → constraintAt s at len set ≡ constraintDone at len set t (f .made)
+pub constraint-done : (s : List ℕ) (at len : ℕ) (set : Set) (f : Literals) (t : Taken) → set .n ≤ mostOutputs
+    → f ≡ literalsOf (set .r) (min (set .n) mostOutputs) (take (at + 3 + len - (at + 3)) (drop (at + 3) s)) → f .taken ≡ t → constraintAt s at len set ≡ constraintDone at len set t (f .made)
 unfolding constraintAt
 constraint-done s at len set f t h e q =
     from-part s at len (literalsOf (set .r) (set .n)) (λ g. g .taken) (λ x g. constraintDone at len set x (g .made)) f t

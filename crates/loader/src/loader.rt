@@ -182,7 +182,7 @@ fn constraints_at(s: &[u8], at: usize, set: Set) -> Loading
                 let taken = f.taken;
                 match taken {
                     Taken::Refused(c) => return refused(c, here),
-                    Taken::Next(_) => {
+                    Taken::Good => {
                         let made = f.made;
                         let m = so_far.m;
                         so_far.constraints[m] = made;
