@@ -16,7 +16,7 @@ use Rattle.scan.specs.declared.set.Kind.the-variants.{Sensor, PastOutput, PastS
 use Rattle.scan.specs.declared.set.Constraint.{Constraint}
 use Rattle.scan.specs.declared.set.Set.{Set}
 use Rattle.shape.specs.declared.names.Spelled.{Spelled}
-use Rattle.scan.specs.Set.{readPoint}
+use Rattle.scan.specs.Set.{mostConstraints, readPoint}
 use Rattle.scan.specs.Names.{allNameBytes, padded, isUsed}
 use Rattle.shape.specs.Spelling.{spelling}
 use Rattle.scan.specs.Shape.{countTests, isSensor}
@@ -32,27 +32,14 @@ use Rattle.literal.specs.declared.literal.Literals.{Literals}
 use Rattle.loader.specs.declared.loader.Progress.{Progress}
 use Rattle.loader.specs.declared.loader.Progress.the-variants.{At, Refused}
 use Rattle.loader.specs.declared.loader.Loading.{Loading}
-use Rattle.header.specs.Header.{headerOf, bodyOf, bodyLength, isDue, fitsTable}
+use Rattle.header.specs.Test.{Test, test, FirstFails, NoneFails}
+use Rattle.header.specs.Header.{headerOf, bodyOf, bodyLength, isCut, isDue, fitsTable}
 use Rattle.literal.specs.Literal.{isOutput, number, place, isLiteral, withLiteral, refusedLiterals, literalThen, literalsFrom, literalsOf}
 use Rattle.loader.specs.Load.{refusal, goingOn, thenFrom, andThen, ofCounts, countsGiven, countsAt, kindOf, deniedRead, readNamed, readTold, readField, readDone, readGiven, readAt, readsFrom, deniedOutput, outputNamed, outputField, outputDone, outputGiven, outputAt, outputsFrom, constraintDone, constraintAt, endAt, constraintsGiven, constraintsFrom, afterCounts, afterReads, answerOf, loadFrom, loadOf}
-use Rattle.loader.specs.Column.{Test, test, FirstFails, NoneFails, behindPlace, behind, headerTests, bodyAt, countsTests, kindFits, nameTests, readTests, outputTests, literalTests, namesOutput, bodyTests, endTests, readsTests, outputsTests, tagTests, constraintsTests, readsOn, outputsOn, loadTests}
+use Rattle.loader.specs.Column.{behindPlace, behind, headerTests, bodyAt, countsTests, kindFits, nameTests, readTests, outputTests, literalTests, namesOutput, bodyTests, endTests, readsTests, outputsTests, tagTests, constraintsTests, readsOn, outputsOn, loadTests}
 use Rattle.loader.specs.Told.{loadTold}
-use Rattle.header.proofs.HeaderLaws.{no-header, no-body, not-due, too-many, not-in-table, a-field, found, read-length, output-length}
-
--- ---- columns one behind the other
-
-first-front : (a b : List Test) (c o : ℕ) → FirstFails a c o → FirstFails (a ++ b) c o
-first-front [] b c o x = absurd x
-first-front (t ∷ a) b c o (inl x) = inl x
-first-front (t ∷ a) b c o (inr x) = inr (x .0, first-front a b c o (x .1))
-
-first-behind : (a b : List Test) (c o : ℕ) → NoneFails a → FirstFails b c o → FirstFails (a ++ b) c o
-first-behind [] b c o n x = x
-first-behind (t ∷ a) b c o n x = inr (n .0, first-behind a b c o (n .1) x)
-
-none-joined : (a b : List Test) → NoneFails a → NoneFails b → NoneFails (a ++ b)
-none-joined [] b n m = m
-none-joined (t ∷ a) b n m = (n .0, none-joined a b (n .1) m)
+use Rattle.header.proofs.TestLaws.{first-front, first-behind, none-joined, first-once, none-first}
+use Rattle.header.proofs.HeaderLaws.{raw-cut, raw-field, past-end, not-due, too-many, not-in-table, a-field, found, read-length, output-length}
 
 -- ---- a load and its column
 
@@ -97,26 +84,19 @@ by-header file at due m stop go =
     let s = drop at file in
     let tag = getD s 0 0 in
     let len = bodyLength s in
-    by-test (ltb (length s) 3 || ltb (length s) (3 + len))
-    (λ f1. stop 1
-    (by-test (ltb (length s) 3) (λ t. no-header s due m (ltb-true (length s) 3 t))
-    (λ t. no-body s due m (ltb-false (length s) 3 t) (ltb-true (length s) (3 + len) (or-true (ltb (length s) 3) (ltb (length s) (3 + len)) f1 t))))
-    (inl (f1, refl, refl)))
+    by-test (isCut s)
+    (λ f1. stop 1 (past-end s due m (raw-cut s f1)) (inl (f1, refl, refl)))
     (λ n1.
-    let apart = or-false (ltb (length s) 3) (ltb (length s) (3 + len)) n1 in
-    let h : 3 ≤ length s = ltb-false (length s) 3 (apart .0) in
-    let l : 3 + len ≤ length s = ltb-false (length s) (3 + len) (apart .1) in
+    let e = raw-field s n1 in
     by-test (not (isDue due tag))
-    (λ f2. stop 2 (not-due s due m h l (not-true (isDue due tag) f2)) (inr (n1, inl (f2, refl, refl))))
+    (λ f2. stop 2 (not-due s due m tag len e (not-true (isDue due tag) f2)) (inr (n1, inl (f2, refl, refl))))
     (λ n2.
     let d = not-false (isDue due tag) n2 in
-    by-test (eqb tag 0x04 && leb 64 m)
-    (λ f3.
-    let both = and-true (eqb tag 0x04) (leb 64 m) f3 in
-    stop 3 (too-many s due m h l d (eqb-true tag 0x04 (both .0)) (leb-true 64 m (both .1))) (inr (n1, inr (n2, inl (f3, refl, refl)))))
+    by-test (eqb tag 0x04 && leb mostConstraints m)
+    (λ f3. stop 3 (too-many s due m tag len e d f3) (inr (n1, inr (n2, inl (f3, refl, refl)))))
     (λ n3. by-test (not (fitsTable tag len))
-    (λ f4. stop 4 (not-in-table s due m h l d n3 (not-true (fitsTable tag len) f4)) (inr (n1, inr (n2, inr (n3, inl (f4, refl, refl))))))
-    (λ n4. go (a-field s due m h l d n3 (not-false (fitsTable tag len) n4)) (n1, (n2, (n3, (n4, tt))))))))
+    (λ f4. stop 4 (not-in-table s due m tag len e d n3 (not-true (fitsTable tag len) f4)) (inr (n1, inr (n2, inr (n3, inl (f4, refl, refl))))))
+    (λ n4. go (a-field s due m tag len e d n3 (not-false (fitsTable tag len) n4)) (n1, (n2, (n3, (n4, tt))))))))
 
 -- ---- the counts
 
@@ -367,19 +347,6 @@ load-tells file =
     (λ d u. constraints-tell file 65 d u)))
 
 -- ---- the answer
-
--- a column has one first test that fails, and it is not so that none fails
-first-once : (column : List Test) (c o d p : ℕ) → FirstFails column c o → FirstFails column d p → (c ≡ d) × (o ≡ p)
-first-once [] c o d p x y = absurd x
-first-once (t ∷ column) c o d p (inl x) (inl y) = (sym (x .1) ∙ y .1, sym (x .2) ∙ y .2)
-first-once (t ∷ column) c o d p (inl x) (inr y) = clash (x .0) (y .0)
-first-once (t ∷ column) c o d p (inr x) (inl y) = clash (y .0) (x .0)
-first-once (t ∷ column) c o d p (inr x) (inr y) = first-once column c o d p (x .1) (y .1)
-
-none-first : (column : List Test) (c o : ℕ) → NoneFails column → FirstFails column c o → ⊥
-none-first [] c o n x = x
-none-first (t ∷ column) c o n (inl x) = clash (x .0) (n .0)
-none-first (t ∷ column) c o n (inr x) = none-first column c o (n .1) (x .1)
 
 -- A file is refused with a number and an offset exactly when the first of its tests that fails has them.
 pub load-refused : (file : List ℕ) (c o : ℕ) → (loadTold (loadOf file .answer) ≡ c ∷ o ∷ []) ↔ FirstFails (loadTests file) c o
