@@ -8,15 +8,18 @@ use native.Mathlib.Nat.{add-zero, not-suc-le-zero}
 use native.Mathlib.Numerals.{add-one}
 use native.Mathlib.Omega.{arith}
 use lib.Dec.{eqb, ltb}
-use lib.ListN.{length, getD, take, set, replicate, length-set}
+use lib.ListN.{length, getD, take, set, replicate, length-set, getD-replicate}
 use lib.Seq.{set-at, take-suc, length-take-le, getD-set-same, getD-set-other}
-use borrow.Author.Tests.{eq-eqb, lt-ltb, ltb-true, ltb-false}
+use borrow.Author.Tests.{eq-eqb, eqb-true, eqb-false, lt-ltb, ltb-true, ltb-false}
 use Rattle.words.specs.Loop.{all}
 use Rattle.words.proofs.BoolLaws.{by-test, clash, same-truth, and-true, or-true, or-left, or-right, cond-true, cond-false, and-unit, and-assoc, sized}
 use Rattle.words.proofs.LoopTurns.{all-none, all-more}
 use Rattle.words.proofs.LoopLaws.{all-true, all-at, first-spec}
+use Rattle.scan.specs.declared.set.ReadPoint.{ReadPoint}
+use Rattle.scan.specs.declared.set.OutputPoint.{OutputPoint}
+use Rattle.scan.specs.Set.{mostReads, mostOutputs, zeroName, zeroRead, zeroOutput, zeroSet, noRead, noOutput}
 use Rattle.scan.specs.Names.{nameByte, zeroAt, nameLength, placeOk, nameOk, nameZero}
-use Rattle.shape.specs.way.Names.{nextOk}
+use Rattle.shape.specs.way.Names.{nextOk, ReadNames, OutputNames}
 
 -- ---- a name's places, one after the other
 
@@ -123,3 +126,35 @@ module _ (n : ℕ) (f : ℕ → List ℕ) where
 
   pub placed-all : (names : List (List ℕ)) (k : ℕ) → Placed n f names k → n ≤ k → (j : ℕ) → j < n → getD names j [] ≡ f j
   placed-all names k i h j l = i .2 j (omega arith)
+
+-- points and a list of their names, where a point and its name are stored at the same place of both
+module _ {A : Type 0} (name : A → List ℕ) (none : A) (n : ℕ) where
+  stored : (names : List (List ℕ)) (points : List A) (i : ℕ) (p : A) → i < length names → i < length points
+      → ((k : ℕ) → k < n → getD names k [] ≡ name (getD points k none)) → (k : ℕ) → k < n → getD (set names i (name p)) k [] ≡ name (getD (set points i p) k none)
+  stored names points i p h l named k below =
+      by-test (eqb k i)
+      (λ t. let same = eqb-true k i t in
+      ap (λ (j : ℕ). getD (set names i (name p)) j []) same ∙ getD-set-same names i (name p) [] h
+      ∙ ap name (sym (getD-set-same points i p none l)) ∙ ap (λ (j : ℕ). name (getD (set points i p) j none)) (sym same))
+      (λ t. let other = eqb-false k i t in
+      getD-set-other names i k (name p) [] other ∙ named k below ∙ ap name (sym (getD-set-other points i k p none other)))
+
+-- the names stay those of the read points where a point is stored with its name
+pub read-stored : (names : List (List ℕ)) (reads : List ReadPoint) (i : ℕ) (p : ReadPoint) → i < length names → i < length reads
+    → ReadNames names reads → ReadNames (set names i (p .name)) (set reads i p)
+read-stored names reads i p h l named k below = stored (λ (q : ReadPoint). q .name) noRead mostReads names reads i p h l named k below
+
+-- and those of the outputs
+pub output-stored : (own : List (List ℕ)) (outputs : List OutputPoint) (j : ℕ) (p : OutputPoint) → j < length own → j < length outputs
+    → OutputNames own outputs → OutputNames (set own j (p .name)) (set outputs j p)
+output-stored own outputs j p h l owned k below = stored (λ (q : OutputPoint). q .name) noOutput mostOutputs own outputs j p h l owned k below
+
+-- the names of the zero set's read points are zeros
+pub read-zeros : ReadNames (replicate mostReads zeroName) (zeroSet .reads)
+unfolding zeroSet
+read-zeros k h = getD-replicate mostReads k zeroName [] h ∙ ap (λ (q : ReadPoint). q .name) (sym (getD-replicate mostReads k zeroRead noRead h))
+
+-- and those of its outputs
+pub output-zeros : OutputNames (replicate mostOutputs zeroName) (zeroSet .outputs)
+unfolding zeroSet
+output-zeros k h = getD-replicate mostOutputs k zeroName [] h ∙ ap (λ (q : OutputPoint). q .name) (sym (getD-replicate mostOutputs k zeroOutput noOutput h))

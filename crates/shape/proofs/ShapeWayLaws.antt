@@ -18,9 +18,9 @@ use Rattle.scan.specs.declared.set.Kind.{Kind}
 use Rattle.scan.specs.declared.set.Kind.the-variants.{Sensor, PastOutput, PastSensor}
 use Rattle.scan.specs.declared.set.ReadPoint.{ReadPoint}
 use Rattle.scan.specs.declared.set.OutputPoint.{OutputPoint}
-use Rattle.scan.specs.Set.{readPoint, outputPoint, rank, outs}
-use Rattle.scan.specs.Names.{nameOk, nameZero, sameName, readNamed, firstRead, outputNamed, firstOutput}
-use Rattle.shape.specs.way.Names.{nameIs, firstName, ReadNames, OutputNames}
+use Rattle.scan.specs.Set.{mostReads, mostOutputs, readPoint, outputPoint, rank, outs}
+use Rattle.scan.specs.Names.{nameOk, nameZero, sameName, readNamed, firstRead, outputNamed, firstOutput, isUsed}
+use Rattle.shape.specs.way.Names.{nameIs, firstName, nameUsed, ReadNames, OutputNames}
 use Rattle.scan.specs.Shape.{isSensor, kindOk, readOk, readZero, readPlace, outputOk, outputPlace, countTests, lengthTests, rankOk, constraintTests, rankZero, constraintZero, constraintPlace, setTests, wellFormed}
 use Rattle.shape.specs.way.Shape.{sensorsOf, kindBy, readBy, readPlaceBy, outputBy, outputPlaceBy}
 use Rattle.scan.specs.declared.set.Constraint.{Constraint}
@@ -68,6 +68,11 @@ module _ (names : List (List ℕ)) (reads : List ReadPoint) (named : ReadNames n
     first-outputs : (i : ℕ) (name : List ℕ) → i ≤ 12 → firstName own i name ≡ firstOutput outputs i name
     unfolding firstName firstOutput nameIs outputNamed
     first-outputs i name h = first-cong i (nameIs own name) (outputNamed outputs name) (λ k l. ap (λ (x : List ℕ). sameName x name) (owned k (omega arith)))
+
+    -- a name is used by the lists of names exactly where it is used by the points
+    pub used-names : (i j : ℕ) (name : List ℕ) → i ≤ mostReads → j ≤ mostOutputs → nameUsed names i own j name ≡ isUsed reads i outputs j name
+    unfolding nameUsed isUsed
+    used-names i j name h l = ap₂ (λ (a b : ℕ). ltb a i || ltb b j) (first-reads i name h) (first-outputs j name l)
 
     by-output-place : (r n j : ℕ) → r ≤ 16 → j < 12 → outputPlaceBy names r own n j ≡ outputPlace reads r outputs n j
     unfolding outputPlace outputBy outputOk

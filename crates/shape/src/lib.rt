@@ -6,6 +6,7 @@ mod finding; // finding a point by its name
 pub use finding::Found;
 pub use finding::find;
 pub use names::Spelled;
+pub use names::is_name_used;
 pub use names::is_used;
 pub use names::spell;
 pub use shape::is_sensor;

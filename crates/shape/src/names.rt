@@ -13,9 +13,9 @@ ghost use mathlib.Core.Bool.{false};
 ghost use Prim.Native.Nat.{_≤_, min};
 ghost use lib.ListN.{length};
 ghost use Rattle.shape.specs.declared.names.Spelled.{Spelled};
-ghost use Rattle.scan.specs.Set.{zeroName};
+ghost use Rattle.scan.specs.Set.{mostReads, mostOutputs, zeroName};
 ghost use Rattle.scan.specs.Names.{nameByte, allNameBytes, padded, nameOk, nameZero, sameName, firstRead, firstOutput, isUsed};
-ghost use Rattle.shape.specs.way.Names.{nextOk, firstName, ReadNames, OutputNames};
+ghost use Rattle.shape.specs.way.Names.{nextOk, firstName, nameUsed, ReadNames, OutputNames};
 ghost use Rattle.shape.specs.Spelling.{spelling};
 
 // Whether a name may have the byte.
@@ -237,6 +237,37 @@ pub fn first_of_outputs(
         k = k + 1;
     }
     i
+}
+
+// The first of the first i names that is the name, or i.
+pub fn first_of(names: &[[u8; NAME_PLACES]], i: usize, name: [u8; NAME_PLACES]) -> usize
+    requires { ⌜ i ≤ length (now names) ⌝ }
+    ensures { λ r. ⌜ r ≡ firstName (now (names .entry)) i name ⌝ }
+{
+    let mut k: usize = 0;
+    while k < i {
+        let own = names[k];
+        if is_same_name(own, name) {
+            return k;
+        }
+        k = k + 1;
+    }
+    i
+}
+
+// Whether one of the first i names of read points, or of the first j of outputs, is the name.
+pub fn is_name_used<'a>(
+    reads: &'a [[u8; NAME_PLACES]; MOST_READS],
+    i: usize,
+    outputs: &'a [[u8; NAME_PLACES]; MOST_OUTPUTS],
+    j: usize,
+    name: [u8; NAME_PLACES],
+) -> bool
+    ensures { λ r. ⌜ r ≡ nameUsed (now (reads .entry)) (min i mostReads) (now (outputs .entry)) (min j mostOutputs) name ⌝ }
+{
+    let a = least(i, MOST_READS);
+    let b = least(j, MOST_OUTPUTS);
+    either(first_of(reads, a, name) < a, first_of(outputs, b, name) < b)
 }
 
 // Whether one of the first i read points or of the first j outputs of the set has the name.
