@@ -13,11 +13,10 @@ use Rattle.scan.specs.Names.{allNameBytes, padded, isUsed}
 use Rattle.scan.specs.Shape.{countTests, isSensor}
 use Rattle.loader.specs.declared.loader.Progress.{Progress}
 use Rattle.loader.specs.declared.loader.Progress.the-variants.{At, Refused}
-use Rattle.loader.specs.declared.loader.Loading.{Loading}
 use Rattle.header.specs.Test.{Test, test}
 use Rattle.header.specs.Header.{fitsTable, isDue, isCut, bodyLength, bodyOf}
 use Rattle.literal.specs.Literal.{isOutput, place, isLiteral}
-use Rattle.loader.specs.Load.{countsAt, readAt, readsFrom, outputAt, outputsFrom, constraintAt}
+use Rattle.loader.specs.Load.{Loading, countsAt, readAt, readsFrom, outputAt, outputsFrom, constraintAt}
 
 -- ---- columns
 
@@ -32,7 +31,7 @@ behind l tests = behindPlace (l .progress) (l .set) tests
 
 -- ---- the field at the front of what is left from `at` on
 
--- 1 header or body runs past the end; 2 tag not due; 3 a 65th constraint; 4 length not in the table
+-- 1 header or body runs past the end; 2 tag not due; 3 a constraint above the most; 4 length not in the table
 unfoldable pub headerTests : List ℕ → ℕ → ℕ → ℕ → List Test
 headerTests file at due m =
     let left = drop at file in
@@ -112,18 +111,18 @@ tagTests file at set next tag =
     let constraint = bodyTests file at set ++ behind (constraintAt file at (bodyLength (drop at file)) set) next in
     cond (eqb tag 0x05) (endTests file at) constraint
 
--- constraints up to the end, at most `left` fields: 65 are enough, since a 65th constraint is refused
+-- constraints up to the end, at most `left` fields: one more than the most constraints is enough, since such a constraint is refused
 unfoldable pub constraintsTests : List ℕ → ℕ → ℕ → Set → List Test
 constraintsTests file zero at set = test 3 at true ∷ []
 constraintsTests file (suc left) at set =
     headerTests file at 0x04 (set .m) ++ tagTests file at set (constraintsTests file left) (getD (drop at file) 0 0)
 
--- ---- the whole file: one 0x01, r of 0x02, n of 0x03, up to 64 of 0x04, one 0x05
+-- ---- the whole file: one 0x01, r of 0x02, n of 0x03, up to `mostConstraints` of 0x04, one 0x05
 
 -- what follows the read points
 abbrev pub outputsOn : List ℕ → ℕ → Set → List Test
 outputsOn file at set =
-    outputsTests file (set .n) 0 at set ++ behind (outputsFrom file (set .n) 0 at set) (constraintsTests file 65)
+    outputsTests file (set .n) 0 at set ++ behind (outputsFrom file (set .n) 0 at set) (constraintsTests file (suc mostConstraints))
 
 -- what follows the counts
 abbrev pub readsOn : List ℕ → ℕ → Set → List Test

@@ -26,7 +26,8 @@ ghost use Rattle.shape.specs.way.Names.{ReadNames};
 ghost use Rattle.scan.specs.Shape.{countTests, isSensor, readZero, readPlace, rankOk, rankZero, constraintTests, constraintZero, constraintPlace, wellFormed};
 ghost use Rattle.shape.specs.way.Shape.{sensorsOf, kindBy, readBy, readPlaceBy, outputBy, outputPlaceBy};
 
-fn are_counts_ok(r: usize, n: usize, m: usize) -> bool
+// Whether the counts are in range.
+pub fn are_counts_ok(r: usize, n: usize, m: usize) -> bool
     ensures { λ x. ⌜ x ≡ every (countTests r n m) ⌝ }
 {
     if r <= MOST_READS {
