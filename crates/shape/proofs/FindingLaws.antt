@@ -1,18 +1,21 @@
 -- Finding a point by its name, by the way that the code's tests went.
 -- Assumes nothing.
-use mathlib.Core.Path.{_≡_, sym, ap, ap₂}
+use mathlib.Core.Path.{_≡_, sym, ap, ap₂, _∙_}
 use mathlib.Core.List.{List}
-use mathlib.Core.Bool.{Bool, true, false, _&&_}
+use mathlib.Core.Bool.{true, false, _&&_}
 use Prim.Native.Nat.{ℕ, _≤_, _<_}
-use lib.Dec.{leb}
 use lib.ListN.{length}
-use borrow.Author.Tests.{le-leb, lt-leb, lt-ltb, le-ltb}
-use Rattle.words.proofs.BoolLaws.{and-false}
+use borrow.Author.Tests.{le-leb, lt-ltb, le-ltb}
+use Rattle.words.proofs.BoolLaws.{by-test, clash}
 use Rattle.scan.specs.declared.set.Set.{Set}
+use Rattle.scan.specs.Set.{namePlaces}
 use Rattle.scan.specs.Names.{lengthOk, allNameBytes, padded, firstRead, firstOutput}
 use Rattle.scan.specs.Shape.{wellFormed}
 use Rattle.shape.specs.declared.finding.Found.the-variants.{Read, Output, BadSet, BadLength, Unknown}
+use Rattle.shape.specs.declared.names.Spelled.{Spelled}
+use Rattle.shape.specs.Spelling.{spelling}
 use Rattle.shape.specs.Finding.{findPadded, findOf}
+use Rattle.shape.proofs.SpellingLaws.{length-right, spell-strange, spell-name}
 
 module _ (s : Set) (name : List ℕ) (k : ℕ) (here : k ≡ firstRead (s .reads) (s .r) name) where
   pub find-read : k < s .r → Read k ≡ findPadded s name
@@ -36,15 +39,9 @@ module _ (s : Set) (bytes : List ℕ) (formed : wellFormed s ≡ true) where
   unfolding findOf
   find-length e = sym (rw (formed, e))
 
-  pub find-empty : length bytes < 1 → BadLength ≡ findOf s bytes
-  find-empty h = find-length (ap (λ (b : Bool). b && leb (length bytes) 8) (lt-leb 1 (length bytes) h))
-
-  pub find-long : 8 < length bytes → BadLength ≡ findOf s bytes
-  find-long h = find-length (and-false (leb 1 (length bytes)) (leb (length bytes) 8) (lt-leb (length bytes) 8 h))
-
-  module _ (low : 1 ≤ length bytes) (high : length bytes ≤ 8) where
+  module _ (low : 1 ≤ length bytes) (high : length bytes ≤ namePlaces) where
     fits : lengthOk bytes ≡ true
-    fits = ap₂ _&&_ (le-leb 1 (length bytes) low) (le-leb (length bytes) 8 high)
+    fits = ap₂ _&&_ (le-leb 1 (length bytes) low) (le-leb (length bytes) namePlaces high)
 
     pub find-strange : allNameBytes bytes ≡ false → Unknown ≡ findOf s bytes
     unfolding findOf
@@ -53,3 +50,20 @@ module _ (s : Set) (bytes : List ℕ) (formed : wellFormed s ≡ true) where
     pub find-named : allNameBytes bytes ≡ true → findPadded s (padded bytes) ≡ findOf s bytes
     unfolding findOf
     find-named e = sym (rw (formed, fits, e))
+
+  -- the same, told by what the bytes spell
+  module _ (fit : lengthOk bytes ≡ true) where
+    low : 1 ≤ length bytes
+    low = length-right bytes fit .0
+
+    high : length bytes ≤ namePlaces
+    high = length-right bytes fit .1
+
+    pub find-unspelt : spelling bytes .good ≡ false → Unknown ≡ findOf s bytes
+    find-unspelt e = by-test (allNameBytes bytes) (λ t. clash (sym (ap (λ (x : Spelled). x .good) (spell-name bytes low high t))) e) (find-strange low high)
+
+    pub find-spelt : spelling bytes .good ≡ true → findPadded s (spelling bytes .name) ≡ findOf s bytes
+    find-spelt e =
+        by-test (allNameBytes bytes)
+        (λ t. ap (λ (x : Spelled). findPadded s (x .name)) (sym (spell-name bytes low high t)) ∙ find-named low high t)
+        (λ t. clash e (sym (ap (λ (x : Spelled). x .good) (spell-strange bytes t))))

@@ -5,19 +5,20 @@ use mathlib.Core.List.{List}
 use mathlib.Core.Bool.{Bool, true, false}
 use Prim.Native.Nat.{ℕ, _≤_, _<_}
 use native.Mathlib.Omega.{arith}
-use lib.Dec.{leb, ltb}
+use lib.Dec.{ltb}
 use lib.ListN.{length}
-use borrow.Author.Tests.{leb-true, ltb-true, ltb-false}
+use borrow.Author.Tests.{ltb-true, ltb-false}
 use Rattle.words.specs.Loop.{first}
-use Rattle.words.proofs.BoolLaws.{by-test, clash, and-true}
+use Rattle.words.proofs.BoolLaws.{by-test, clash}
 use Rattle.words.proofs.LoopLaws.{first-is, first-spec}
 use Rattle.scan.specs.declared.set.Set.{Set}
 use Rattle.shape.specs.declared.finding.Found.{Found}
 use Rattle.shape.specs.declared.finding.Found.the-variants.{Read, Output, BadSet, BadLength, Unknown}
-use Rattle.scan.specs.Set.{readPoint, outputPoint}
+use Rattle.scan.specs.Set.{namePlaces, readPoint, outputPoint}
 use Rattle.scan.specs.Names.{lengthOk, allNameBytes, padded, nameBytes, nameOk, sameName, readNamed, firstRead, outputNamed, firstOutput}
 use Rattle.scan.specs.Shape.{wellFormed}
 use Rattle.shape.specs.Finding.{findPadded, findOf}
+use Rattle.shape.proofs.SpellingLaws.{length-right}
 use Rattle.shape.proofs.FindingLaws.{find-read, find-output, find-none, find-bad, find-length, find-strange, find-named}
 use Rattle.scan.proofs.NamesLaws.{name-formed, bytes-long, bytes-named, padded-bytes, name-same, same-name, bytes-padded, padded-long}
 use Rattle.scan.proofs.ShapeLaws.{read-formed, output-formed, points-formed}
@@ -75,7 +76,7 @@ isRead Unknown = false
 -- the tests that passed where a point is found
 record Told (s : Set) (bytes : List ℕ) (f : Found) : Type 0 where
   formed : wellFormed s ≡ true
-  few : length bytes ≤ 8
+  few : length bytes ≤ namePlaces
   named : allNameBytes bytes ≡ true
   here : findPadded s (padded bytes) ≡ f
 
@@ -84,17 +85,15 @@ told s bytes f p e =
     by-test (wellFormed s)
     (λ w. by-test (lengthOk bytes)
     (λ l.
-    let both = and-true (leb 1 (length bytes)) (leb (length bytes) 8) l in
-    let low = leb-true 1 (length bytes) (both .0) in
-    let high = leb-true (length bytes) 8 (both .1) in
+    let fit = length-right bytes l in
     by-test (allNameBytes bytes)
-    (λ n. record { formed = w; few = high; named = n; here = find-named s bytes w low high n ∙ e })
-    (λ n. clash p (ap isPoint (sym (find-strange s bytes w low high n ∙ e)))))
+    (λ n. record { formed = w; few = fit .1; named = n; here = find-named s bytes w (fit .0) (fit .1) n ∙ e })
+    (λ n. clash p (ap isPoint (sym (find-strange s bytes w (fit .0) (fit .1) n ∙ e)))))
     (λ l. clash p (ap isPoint (sym (find-length s bytes w l ∙ e)))))
     (λ w. clash p (ap isPoint (sym (find-bad s bytes w ∙ e))))
 
 -- the name of a point that is the same as the padded bytes is that of the bytes
-bears : (bytes name : List ℕ) → length bytes ≤ 8 → allNameBytes bytes ≡ true → nameOk name ≡ true → sameName name (padded bytes) ≡ true → bytes ≡ nameBytes name
+bears : (bytes name : List ℕ) → length bytes ≤ namePlaces → allNameBytes bytes ≡ true → nameOk name ≡ true → sameName name (padded bytes) ≡ true → bytes ≡ nameBytes name
 bears bytes name few named ok same =
     sym (ap nameBytes (same-name name (padded bytes) (name-formed name ok .long) (padded-long bytes named few) same) ∙ bytes-padded bytes named few)
 

@@ -17,22 +17,22 @@ use Rattle.words.proofs.LoopTurns.{all-none, all-more}
 use Rattle.words.proofs.LoopLaws.{all-true, all-at, first-spec}
 use Rattle.scan.specs.declared.set.ReadPoint.{ReadPoint}
 use Rattle.scan.specs.declared.set.OutputPoint.{OutputPoint}
-use Rattle.scan.specs.Set.{mostReads, mostOutputs, zeroName, zeroRead, zeroOutput, zeroSet, noRead, noOutput}
+use Rattle.scan.specs.Set.{namePlaces, mostReads, mostOutputs, zeroName, zeroRead, zeroOutput, zeroSet, noRead, noOutput}
 use Rattle.scan.specs.Names.{nameByte, zeroAt, nameLength, placeOk, nameOk, nameZero}
 use Rattle.shape.specs.way.Names.{nextOk, ReadNames, OutputNames}
 
 -- ---- a name's places, one after the other
 
 -- eight places of which the first k are filled, and one more
-pub pad-one : (b : List ℕ) (k : ℕ) → k < length b → k < 8 → set (take k b ++ replicate (8 - k) 0) k (getD b k 0) ≡ take (k + 1) b ++ replicate (8 - (k + 1)) 0
+pub pad-one : (b : List ℕ) (k : ℕ) → k < length b → k < namePlaces → set (take k b ++ replicate (namePlaces - k) 0) k (getD b k 0) ≡ take (k + 1) b ++ replicate (namePlaces - (k + 1)) 0
 pad-one b k h l =
-    let e : 8 - k ≡ suc (8 - (k + 1)) = omega arith in
+    let e : namePlaces - k ≡ suc (namePlaces - (k + 1)) = omega arith in
     ap (λ (j : ℕ). set (take k b ++ replicate j 0) k (getD b k 0)) e
-    ∙ set-at (take k b) 0 (replicate (8 - (k + 1)) 0) (getD b k 0) k (length-take-le k b (omega arith))
+    ∙ set-at (take k b) 0 (replicate (namePlaces - (k + 1)) 0) (getD b k 0) k (length-take-le k b (omega arith))
     ∙ sym
-    (ap (λ (j : ℕ). take j b ++ replicate (8 - (k + 1)) 0) (add-one k)
-    ∙ ap (λ (xs : List ℕ). xs ++ replicate (8 - (k + 1)) 0) (take-suc b k 0 h)
-    ∙ append-assoc (take k b) (getD b k 0 ∷ []) (replicate (8 - (k + 1)) 0))
+    (ap (λ (j : ℕ). take j b ++ replicate (namePlaces - (k + 1)) 0) (add-one k)
+    ∙ ap (λ (xs : List ℕ). xs ++ replicate (namePlaces - (k + 1)) 0) (take-suc b k 0 h)
+    ∙ append-assoc (take k b) (getD b k 0 ∷ []) (replicate (namePlaces - (k + 1)) 0))
 
 -- byte place k is right behind the one before it
 abbrev pub followsOk : List ℕ → ℕ → Bool
@@ -40,9 +40,9 @@ followsOk name k = nextOk (getD name (k - 1) 0) (getD name k 0)
 
 module _ (name : List ℕ) where
   -- once all places follow rightly, those from the first zero on are zeros
-  zeros-on : ((k : ℕ) → k < 8 → followsOk name k ≡ true) → (d : ℕ) → nameLength name + d < 8 → zeroAt name (nameLength name + d) ≡ true
+  zeros-on : ((k : ℕ) → k < namePlaces → followsOk name k ≡ true) → (d : ℕ) → nameLength name + d < namePlaces → zeroAt name (nameLength name + d) ≡ true
   unfolding nextOk nameLength
-  zeros-on f zero h = ap (zeroAt name) (add-zero (nameLength name)) ∙ first-spec 8 (zeroAt name) .here (omega arith)
+  zeros-on f zero h = ap (zeroAt name) (add-zero (nameLength name)) ∙ first-spec namePlaces (zeroAt name) .here (omega arith)
   zeros-on f (suc d) h =
       let l = nameLength name + d in
       let e : nameLength name + suc d ≡ l + 1 = omega arith in
@@ -61,49 +61,49 @@ module _ (name : List ℕ) where
       let z = not (zeroAt name 0) in
       ex ∙ ap₂ _&&_ eo er ∙ sym (and-assoc z (all k (followsOk name)) (followsOk name k)) ∙ ap (λ (y : Bool). z && y) (sym (all-more k (followsOk name)))
 
-  module _ (long : length name ≡ 8) where
-    rightly : not (zeroAt name 0) && all 8 (followsOk name) ≡ true → nameOk name ≡ true
+  module _ (long : length name ≡ namePlaces) where
+    rightly : not (zeroAt name 0) && all namePlaces (followsOk name) ≡ true → nameOk name ≡ true
     unfolding nameOk placeOk nextOk nameLength
     rightly e =
         let l = nameLength name in
-        let s = first-spec 8 (zeroAt name) in
-        let p = and-true (not (zeroAt name 0)) (all 8 (followsOk name)) e in
-        let f : (k : ℕ) → k < 8 → followsOk name k ≡ true = all-at 8 (followsOk name) (p .1) in
+        let s = first-spec namePlaces (zeroAt name) in
+        let p = and-true (not (zeroAt name 0)) (all namePlaces (followsOk name)) e in
+        let f : (k : ℕ) → k < namePlaces → followsOk name k ≡ true = all-at namePlaces (followsOk name) (p .1) in
         let some : 0 < l =
         by-test (ltb 0 l) (λ t. ltb-true 0 l t)
         (λ t. let none : l ≡ 0 = omega (arith, ltb-false 0 l t) in clash (p .0) (ap not (ap (zeroAt name) (sym none) ∙ s .here (omega arith)))) in
-        let place : (k : ℕ) → k < 8 → placeOk name k ≡ true =
+        let place : (k : ℕ) → k < namePlaces → placeOk name k ≡ true =
         λ k h. by-test (ltb k l)
         (λ t. sym (cond-true (ltb k l) (nameByte (getD name k 0)) (zeroAt name k) t)
         ∙ and-true (nameByte (getD name k 0)) _ (or-true (zeroAt name k) _ (f k h) (s .before k (ltb-true k l t))) .0)
         (λ t. let on : k ≡ l + (k - l) = omega (arith, ltb-false k l t) in
         sym (cond-false (ltb k l) (nameByte (getD name k 0)) (zeroAt name k) t) ∙ ap (zeroAt name) on ∙ zeros-on f (k - l) (omega arith)) in
-        rw (eq-eqb (length name) 8 long, lt-ltb 0 l some, all-true 8 (placeOk name) place)
+        rw (eq-eqb (length name) namePlaces long, lt-ltb 0 l some, all-true namePlaces (placeOk name) place)
 
-    wrongly : nameOk name ≡ true → not (zeroAt name 0) && all 8 (followsOk name) ≡ true
+    wrongly : nameOk name ≡ true → not (zeroAt name 0) && all namePlaces (followsOk name) ≡ true
     unfolding nameOk placeOk nextOk nameLength
     wrongly e =
         let l = nameLength name in
-        let s = first-spec 8 (zeroAt name) in
-        let a = and-true (ltb 0 l) _ (and-true (eqb (length name) 8) _ e .1) in
+        let s = first-spec namePlaces (zeroAt name) in
+        let a = and-true (ltb 0 l) _ (and-true (eqb (length name) namePlaces) _ e .1) in
         let some : 0 < l = ltb-true 0 l (a .0) in
-        let place : (k : ℕ) → k < 8 → placeOk name k ≡ true = all-at 8 (placeOk name) (and-true (all 8 (placeOk name)) true (a .1) .0) in
-        let follows : (k : ℕ) → k < 8 → followsOk name k ≡ true =
+        let place : (k : ℕ) → k < namePlaces → placeOk name k ≡ true = all-at namePlaces (placeOk name) (and-true (all namePlaces (placeOk name)) true (a .1) .0) in
+        let follows : (k : ℕ) → k < namePlaces → followsOk name k ≡ true =
         λ k h. by-test (zeroAt name k) (λ t. or-left (zeroAt name k) _ t)
         (λ t. by-test (ltb k l)
         (λ u. or-right (zeroAt name k) _
         (ap₂ (λ (x y : Bool). x && not y) (cond-true (ltb k l) (nameByte (getD name k 0)) (zeroAt name k) u ∙ place k h)
         (s .before (k - 1) (omega (arith, ltb-true k l u)))))
         (λ u. clash (cond-false (ltb k l) (nameByte (getD name k 0)) (zeroAt name k) u ∙ place k h) t)) in
-        ap₂ (λ (x y : Bool). not x && y) (s .before 0 some) (all-true 8 (followsOk name) follows)
+        ap₂ (λ (x y : Bool). not x && y) (s .before 0 some) (all-true namePlaces (followsOk name) follows)
 
     -- the places follow each other rightly, and the first is no zero, exactly where they hold a name
-    pub name-follows : (ok : Bool) → ok ≡ (not (zeroAt name 0) && all 8 (followsOk name)) → ok ≡ nameOk name
+    pub name-follows : (ok : Bool) → ok ≡ (not (zeroAt name 0) && all namePlaces (followsOk name)) → ok ≡ nameOk name
     name-follows ok e = e ∙ same-truth _ _ rightly wrongly
 
-pub name-zeros : (name : List ℕ) (ok : Bool) → length name ≡ 8 → ok ≡ all 8 (zeroAt name) → ok ≡ nameZero name
+pub name-zeros : (name : List ℕ) (ok : Bool) → length name ≡ namePlaces → ok ≡ all namePlaces (zeroAt name) → ok ≡ nameZero name
 unfolding nameZero
-name-zeros name ok long eo = eo ∙ sym (and-unit (all 8 (zeroAt name))) ∙ sized (length name) 8 _ long
+name-zeros name ok long eo = eo ∙ sym (and-unit (all namePlaces (zeroAt name))) ∙ sized (length name) namePlaces _ long
 
 -- ---- names in a list of their own
 

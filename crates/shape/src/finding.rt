@@ -1,13 +1,15 @@
 // Finding a point by its name.
-use super::names::are_name_bytes;
-use super::names::first_output;
-use super::names::first_read;
-use super::names::pad;
+use super::names::first_of;
+use super::names::is_length_ok;
+use super::names::names_of_outputs;
+use super::names::names_of_reads;
+use super::names::spell;
 use super::shape::well_formed;
 use scan::NAME_PLACES;
 use scan::Set;
 ghost use mathlib.Core.Path.{_≡_};
 ghost use Prim.Native.Nat.{_≤_};
+ghost use Rattle.scan.specs.Set.{mostReads, mostOutputs};
 ghost use Rattle.shape.specs.Finding.{findPadded, findOf};
 
 // A read point or an output, by its number; or why there is none.
@@ -21,18 +23,20 @@ pub enum Found {
 
 // The point whose name fills the eight places so.
 fn find_padded(set: Set, name: [u8; NAME_PLACES]) -> Found
-    requires { ⌜ (set .r ≤ 16) × (set .n ≤ 12) ⌝ }
+    requires { ⌜ (set .r ≤ mostReads) × (set .n ≤ mostOutputs) ⌝ }
     ensures { λ r. ⌜ r ≡ findPadded set name ⌝ }
 {
     let r = set.r;
     let n = set.n;
     let reads = set.reads;
     let outputs = set.outputs;
-    let k = first_read(reads, r, name);
+    let names = names_of_reads(reads);
+    let k = first_of(&names, r, name);
     if k < r {
         return Found::Read(k);
     }
-    let j = first_output(outputs, n, name);
+    let own = names_of_outputs(outputs);
+    let j = first_of(&own, n, name);
     if j < n {
         return Found::Output(j);
     }
@@ -46,14 +50,13 @@ pub fn find(set: Set, name: &[u8]) -> Found
     if !well_formed(set) {
         return Found::BadSet;
     }
-    if name.len() < 1 {
+    if !is_length_ok(name) {
         return Found::BadLength;
     }
-    if NAME_PLACES < name.len() {
-        return Found::BadLength;
-    }
-    if !are_name_bytes(name) {
+    let spelled = spell(name);
+    if !spelled.good {
         return Found::Unknown;
     }
-    find_padded(set, pad(name))
+    let places = spelled.name;
+    find_padded(set, places)
 }

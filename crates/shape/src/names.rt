@@ -9,12 +9,10 @@ use scan::OutputPoint;
 use scan::ReadPoint;
 use scan::Set;
 ghost use mathlib.Core.Path.{_≡_};
-ghost use mathlib.Core.Bool.{false};
 ghost use Prim.Native.Nat.{_≤_, min};
 ghost use lib.ListN.{length};
-ghost use Rattle.shape.specs.declared.names.Spelled.{Spelled};
-ghost use Rattle.scan.specs.Set.{mostReads, mostOutputs, zeroName};
-ghost use Rattle.scan.specs.Names.{nameByte, allNameBytes, padded, nameOk, nameZero, sameName, firstRead, firstOutput, isUsed};
+ghost use Rattle.scan.specs.Set.{mostReads, mostOutputs, namePlaces};
+ghost use Rattle.scan.specs.Names.{nameByte, allNameBytes, lengthOk, padded, nameOk, nameZero, sameName, firstRead, firstOutput, isUsed};
 ghost use Rattle.shape.specs.way.Names.{nextOk, firstName, nameUsed, ReadNames, OutputNames};
 ghost use Rattle.shape.specs.Spelling.{spelling};
 
@@ -26,7 +24,7 @@ pub fn is_name_byte(b: u8) -> bool
 }
 
 // Whether a name may have each of the bytes.
-pub fn are_name_bytes(bytes: &[u8]) -> bool
+fn are_name_bytes(bytes: &[u8]) -> bool
     ensures { λ r. ⌜ r ≡ allNameBytes (now (bytes .entry)) ⌝ }
 {
     let mut ok = true;
@@ -38,9 +36,16 @@ pub fn are_name_bytes(bytes: &[u8]) -> bool
     ok
 }
 
+// Whether a name may have so many bytes.
+pub fn is_length_ok(bytes: &[u8]) -> bool
+    ensures { λ r. ⌜ r ≡ lengthOk (now (bytes .entry)) ⌝ }
+{
+    both(1 <= bytes.len(), bytes.len() <= NAME_PLACES)
+}
+
 // The bytes with zeros up to eight places.
-pub fn pad(bytes: &[u8]) -> [u8; NAME_PLACES]
-    requires { ⌜ length (now bytes) ≤ 8 ⌝ }
+fn pad(bytes: &[u8]) -> [u8; NAME_PLACES]
+    requires { ⌜ length (now bytes) ≤ namePlaces ⌝ }
     ensures { λ r. ⌜ r ≡ padded (now (bytes .entry)) ⌝ }
 {
     let mut name = [0u8; NAME_PLACES];
@@ -58,28 +63,18 @@ pub struct Spelled {
     pub name: [u8; NAME_PLACES],
 }
 
-fn no_name() -> Spelled
-    ensures { λ r. ⌜ r ≡ record { good = false; name = zeroName } ⌝ }
-{
-    let name = [0u8; NAME_PLACES];
-    Spelled { good: false, name }
-}
-
 // The name that the bytes spell.
 pub fn spell(bytes: &[u8]) -> Spelled
     ensures { λ r. ⌜ r ≡ spelling (now (bytes .entry)) ⌝ }
 {
-    if bytes.len() < 1 {
-        return no_name();
+    if is_length_ok(bytes) {
+        if are_name_bytes(bytes) {
+            let name = pad(bytes);
+            return Spelled { good: true, name };
+        }
     }
-    if NAME_PLACES < bytes.len() {
-        return no_name();
-    }
-    if !are_name_bytes(bytes) {
-        return no_name();
-    }
-    let name = pad(bytes);
-    Spelled { good: true, name }
+    let name = [0u8; NAME_PLACES];
+    Spelled { good: false, name }
 }
 
 // A zero, or a name byte behind a byte that is no zero.
@@ -132,7 +127,7 @@ fn is_same_name(a: [u8; NAME_PLACES], b: [u8; NAME_PLACES]) -> bool
 
 // The first of the first i read points that has the name, or i.
 pub fn first_read(reads: [ReadPoint; MOST_READS], i: usize, name: [u8; NAME_PLACES]) -> usize
-    requires { ⌜ i ≤ 16 ⌝ }
+    requires { ⌜ i ≤ mostReads ⌝ }
     ensures { λ r. ⌜ r ≡ firstRead reads i name ⌝ }
 {
     let mut k: usize = 0;
@@ -153,7 +148,7 @@ pub fn first_output(
     j: usize,
     name: [u8; NAME_PLACES],
 ) -> usize
-    requires { ⌜ j ≤ 12 ⌝ }
+    requires { ⌜ j ≤ mostOutputs ⌝ }
     ensures { λ r. ⌜ r ≡ firstOutput outputs j name ⌝ }
 {
     let mut k: usize = 0;
@@ -201,45 +196,6 @@ pub fn names_of_outputs(outputs: [OutputPoint; MOST_OUTPUTS]) -> [[u8; NAME_PLAC
 }
 
 // The first of the first i names that is the name, or i.
-pub fn first_of_reads(
-    names: &[[u8; NAME_PLACES]; MOST_READS],
-    i: usize,
-    name: [u8; NAME_PLACES],
-) -> usize
-    requires { ⌜ i ≤ 16 ⌝ }
-    ensures { λ r. ⌜ r ≡ firstName (now (names .entry)) i name ⌝ }
-{
-    let mut k: usize = 0;
-    while k < i {
-        let own = names[k];
-        if is_same_name(own, name) {
-            return k;
-        }
-        k = k + 1;
-    }
-    i
-}
-
-pub fn first_of_outputs(
-    names: &[[u8; NAME_PLACES]; MOST_OUTPUTS],
-    i: usize,
-    name: [u8; NAME_PLACES],
-) -> usize
-    requires { ⌜ i ≤ 12 ⌝ }
-    ensures { λ r. ⌜ r ≡ firstName (now (names .entry)) i name ⌝ }
-{
-    let mut k: usize = 0;
-    while k < i {
-        let own = names[k];
-        if is_same_name(own, name) {
-            return k;
-        }
-        k = k + 1;
-    }
-    i
-}
-
-// The first of the first i names that is the name, or i.
 pub fn first_of(names: &[[u8; NAME_PLACES]], i: usize, name: [u8; NAME_PLACES]) -> usize
     requires { ⌜ i ≤ length (now names) ⌝ }
     ensures { λ r. ⌜ r ≡ firstName (now (names .entry)) i name ⌝ }
@@ -272,7 +228,7 @@ pub fn is_name_used<'a>(
 
 // Whether one of the first i read points or of the first j outputs of the set has the name.
 pub fn is_used(set: Set, i: usize, j: usize, name: [u8; NAME_PLACES]) -> bool
-    ensures { λ r. ⌜ r ≡ isUsed (set .reads) (min i 16) (set .outputs) (min j 12) name ⌝ }
+    ensures { λ r. ⌜ r ≡ isUsed (set .reads) (min i mostReads) (set .outputs) (min j mostOutputs) name ⌝ }
 {
     let reads = set.reads;
     let outputs = set.outputs;

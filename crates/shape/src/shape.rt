@@ -1,6 +1,5 @@
 // When a set is well formed: when some file loads to it.
-use super::names::first_of_outputs;
-use super::names::first_of_reads;
+use super::names::first_of;
 use super::names::is_name;
 use super::names::is_zero_name;
 use super::names::names_of_outputs;
@@ -21,6 +20,7 @@ use scan::Set;
 ghost use mathlib.Core.Path.{_≡_};
 ghost use mathlib.Core.Bool.{cond};
 ghost use Prim.Native.Nat.{_≤_, _<_};
+ghost use Rattle.scan.specs.Set.{mostReads, mostOutputs, mostConstraints};
 ghost use Rattle.words.specs.Loop.{every, all};
 ghost use Rattle.shape.specs.way.Names.{ReadNames};
 ghost use Rattle.scan.specs.Shape.{countTests, isSensor, readZero, readPlace, rankOk, rankZero, constraintTests, constraintZero, constraintPlace, wellFormed};
@@ -85,14 +85,14 @@ fn is_read_ok(
     k: usize,
     p: ReadPoint,
 ) -> bool
-    requires { ⌜ k < 16 ⌝ }
+    requires { ⌜ k < mostReads ⌝ }
     ensures { λ r. ⌜ r ≡ readBy (now (names .entry)) sensors n k p ⌝ }
 {
     let kind = p.kind;
     let name = p.name;
     both(
         is_kind_ok(sensors, n, k, kind),
-        both(is_name(name), first_of_reads(names, k, name) == k),
+        both(is_name(name), first_of(names, k, name) == k),
     )
 }
 
@@ -112,7 +112,7 @@ fn is_read_place_ok(
     k: usize,
     p: ReadPoint,
 ) -> bool
-    requires { ⌜ k < 16 ⌝ }
+    requires { ⌜ k < mostReads ⌝ }
     ensures { λ x. ⌜ x ≡ readPlaceBy (now (names .entry)) sensors r n k p ⌝ }
 {
     if k < r {
@@ -129,7 +129,7 @@ fn are_reads_ok(
     n: usize,
 ) -> bool
     requires { ⌜ ReadNames (now names) reads ⌝ }
-    ensures { λ x. ⌜ x ≡ all 16 (readPlace reads r n) ⌝ }
+    ensures { λ x. ⌜ x ≡ all mostReads (readPlace reads r n) ⌝ }
 {
     let sensors = sensors_of(reads);
     let mut ok = true;
@@ -149,15 +149,15 @@ fn is_output_ok<'a>(
     outputs: &'a [[u8; NAME_PLACES]; MOST_OUTPUTS],
     j: usize,
 ) -> bool
-    requires { ⌜ (r ≤ 16) × (j < 12) ⌝ }
+    requires { ⌜ (r ≤ mostReads) × (j < mostOutputs) ⌝ }
     ensures { λ x. ⌜ x ≡ outputBy (now (reads .entry)) r (now (outputs .entry)) j ⌝ }
 {
     let name = outputs[j];
     both(
         is_name(name),
         both(
-            first_of_reads(reads, r, name) == r,
-            first_of_outputs(outputs, j, name) == j,
+            first_of(reads, r, name) == r,
+            first_of(outputs, j, name) == j,
         ),
     )
 }
@@ -169,7 +169,7 @@ fn is_output_place_ok<'a>(
     n: usize,
     j: usize,
 ) -> bool
-    requires { ⌜ (r ≤ 16) × (j < 12) ⌝ }
+    requires { ⌜ (r ≤ mostReads) × (j < mostOutputs) ⌝ }
     ensures { λ x. ⌜ x ≡ outputPlaceBy (now (reads .entry)) r (now (outputs .entry)) n j ⌝ }
 {
     if j < n {
@@ -186,8 +186,8 @@ fn are_outputs_ok<'a>(
     outputs: &'a [[u8; NAME_PLACES]; MOST_OUTPUTS],
     n: usize,
 ) -> bool
-    requires { ⌜ r ≤ 16 ⌝ }
-    ensures { λ x. ⌜ x ≡ all 12 (outputPlaceBy (now (reads .entry)) r (now (outputs .entry)) n) ⌝ }
+    requires { ⌜ r ≤ mostReads ⌝ }
+    ensures { λ x. ⌜ x ≡ all mostOutputs (outputPlaceBy (now (reads .entry)) r (now (outputs .entry)) n) ⌝ }
 {
     let mut ok = true;
     let mut j: usize = 0;
@@ -200,7 +200,7 @@ fn are_outputs_ok<'a>(
 
 // Whether ranks stand only at outputs that the constraint names.
 fn are_ranks_ok(c: Constraint) -> bool
-    ensures { λ r. ⌜ r ≡ all 12 (rankOk c) ⌝ }
+    ensures { λ r. ⌜ r ≡ all mostOutputs (rankOk c) ⌝ }
 {
     let named = c.out_plain | c.out_negated;
     let mut ok = true;
@@ -235,7 +235,7 @@ fn is_constraint_ok(r: usize, n: usize, c: Constraint) -> bool
 }
 
 fn are_ranks_zero(c: Constraint) -> bool
-    ensures { λ r. ⌜ r ≡ all 12 (rankZero c) ⌝ }
+    ensures { λ r. ⌜ r ≡ all mostOutputs (rankZero c) ⌝ }
 {
     let mut ok = true;
     let mut k: usize = 0;
@@ -265,7 +265,7 @@ fn is_constraint_place_ok(used: bool, r: usize, n: usize, c: Constraint) -> bool
 }
 
 fn are_constraints_ok(s: Set) -> bool
-    ensures { λ r. ⌜ r ≡ all 64 (constraintPlace s) ⌝ }
+    ensures { λ r. ⌜ r ≡ all mostConstraints (constraintPlace s) ⌝ }
 {
     let r = s.r;
     let n = s.n;

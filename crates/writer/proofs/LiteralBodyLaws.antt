@@ -1,109 +1,133 @@
--- The literals of a constraint as bytes: plain, negated or none, those of the points in use, and how many bytes they are.
+-- The literals of a constraint as bytes: as the code puts them, bit by bit of a word, and how many bytes they are.
 -- Assumes nothing.
-use mathlib.Core.Path.{_≡_, refl, sym, ap, ap₂, _∙_}
+use mathlib.Core.Path.{_≡_, refl, sym, ap, ap₂, subst, _∙_}
 use mathlib.Core.Bool.{Bool, true, false, cond, _||_}
 use mathlib.Core.List.{List, [], _∷_, _++_, append-nil}
-use Prim.Native.Nat.{ℕ, zero, suc, _+_, _-_, _*_, _^_, _≤_, _<_}
-use native.Mathlib.Nat.{zero-add, lt-of-lt-of-le}
+use Prim.Native.Nat.{ℕ, zero, suc, _+_, _-_, _*_, _/_, _%_, _^_, _≤_, _<_}
+use native.Mathlib.Nat.{zero-add, lt-of-lt-of-le, div-eq-of-lt, mod-lt, mod-add-div'}
+use native.Mathlib.Decide.{decLt}
 use native.Mathlib.Omega.{arith}
-use lib.ListN.{length, length-append}
-use lib.Pow.{pow-mono}
-use lib.Bits.{bitOr, or-lt, or-shifted}
-use lib.Count.{ones}
-use Rattle.words.specs.Word.{bit, popcount}
+use lib.Arith.{lt-one}
+use lib.Dec.{eqb}
+use lib.ListN.{length, getD, replicate, length-append}
+use lib.Pow.{pow-mono, pow-pos, shr-shr}
+use lib.Bits.{bitOr, or-lt}
+use lib.Count.{onesIn, ones, ones-step}
+use Rattle.words.specs.Word.{odd, bit}
 use Rattle.words.specs.Loop.{count}
-use Rattle.words.proofs.BoolLaws.{clash}
-use Rattle.words.proofs.BitLaws.{bit-or, bit-above}
-use Rattle.words.proofs.PopcountLaws.{ones-popcount, ones-count, count-beyond, count-le}
+use Rattle.words.proofs.BitLaws.{bit-or, bit-above, half-lt}
+use Rattle.words.proofs.PopcountLaws.{ones-count, count-le}
 use Rattle.scan.specs.declared.set.Constraint.{Constraint}
-use Rattle.scan.specs.Set.{rank, outs}
-use Rattle.scan.proofs.ShapeLaws.{Masks, outs-lt}
+use Rattle.scan.specs.declared.set.Set.{Set}
+use Rattle.scan.specs.Set.{mostReads, mostOutputs, constraint, rank, outs}
+use Rattle.scan.specs.Shape.{wellFormed}
+use Rattle.scan.proofs.ShapeLaws.{counts, masks, outs-lt}
 use Rattle.writer.specs.Write.{readLiteral, outputLiteral, joined, literalBody}
+use Rattle.writer.specs.way.Write.{signedBy, literalAt, literalsAt}
 
--- ---- literals: plain, negated or none
+-- ---- bit by bit of a word
 
-literal-plain : (p n : Bool) (x y : List ℕ) → p ≡ true → x ≡ cond p x (cond n y [])
-literal-plain true n x y e = refl
-literal-plain false n x y e = clash e refl
+-- the word without its first k bits, which are gone through
+pub rest-one : (w k left : ℕ) → left ≡ w / 2 ^ k → left / 2 ≡ w / 2 ^ (k + 1)
+rest-one w k left e = ap (λ (x : ℕ). x / 2) e ∙ shr-shr w k 1
 
-literal-negated : (p n : Bool) (x y : List ℕ) → p ≡ false → n ≡ true → y ≡ cond p x (cond n y [])
-literal-negated true n x y e f = clash refl e
-literal-negated false true x y e f = refl
-literal-negated false false x y e f = clash f refl
+-- where something is left, not all of n bits are gone through
+pub rest-more : (w n k left : ℕ) → w < 2 ^ n → left ≡ w / 2 ^ k → 0 < left → k < n
+rest-more w n k left h e l = go (decLt k n)
+  where
+    go : Dec (k < n) → k < n
+    go (yes below) = below
+    go (no not-below) =
+        let beyond : n ≤ k = omega arith in
+        let small : w < 2 ^ k = lt-of-lt-of-le h (pow-mono beyond) in
+        let none : left ≡ 0 = e ∙ div-eq-of-lt small in
+        absurd (omega arith)
 
-literal-none : (p n : Bool) (x y : List ℕ) → p ≡ false → n ≡ false → [] ≡ cond p x (cond n y [])
-literal-none true n x y e f = clash refl e
-literal-none false true x y e f = clash refl f
-literal-none false false x y e f = refl
+-- where nothing is left, the word has no bit from k on
+rest-none : (w k left : ℕ) → left ≡ w / 2 ^ k → left ≤ 0 → (j : ℕ) → k ≤ j → bit j w ≡ false
+rest-none w k left e none j h =
+    let zero-left : w / 2 ^ k ≡ 0 = sym e ∙ omega arith in
+    let small : w < 2 ^ k = omega (arith, mod-lt w {m = 2 ^ k} (pow-pos k), subst (λ (x : ℕ). w % 2 ^ k + x * 2 ^ k ≡ w) zero-left (mod-add-div' w (2 ^ k))) in
+    bit-above k j w small h
+
+-- ---- a literal, as the code puts it
+
+-- told by the points that are named and those that are plain
+literal-told : (p n : Bool) (x y z : ℕ) → cond (p || n) (cond p x y ∷ z ∷ []) [] ≡ cond p (x ∷ z ∷ []) (cond n (y ∷ z ∷ []) [])
+literal-told true n x y z = refl
+literal-told false true x y z = refl
+literal-told false false x y z = refl
+
+zeros-any : (n k : ℕ) → _≡_ {A = ℕ} (getD (replicate n 0) k 0) 0
+zeros-any zero k = refl
+zeros-any (suc n) zero = refl
+zeros-any (suc n) (suc k) = zeros-any n k
 
 module _ (c : Constraint) (k : ℕ) where
-  pub read-plain : bit k (c .«read_plain») ≡ true → k ∷ 0 ∷ [] ≡ readLiteral c k
-  unfolding readLiteral
-  read-plain = literal-plain (bit k (c .«read_plain»)) (bit k (c .«read_negated»)) (k ∷ 0 ∷ []) ((0x80 + k) ∷ 0 ∷ [])
+  read-told : literalAt 0 (c .«read_plain») (bitOr (c .«read_plain») (c .«read_negated»)) (replicate mostReads 0) k ≡ readLiteral c k
+  unfolding literalAt readLiteral
+  read-told =
+      let p = c .«read_plain» in
+      let n = c .«read_negated» in
+      (λ i. cond (bit-or k p n i) (signedBy (bit k p) (zero-add k i) ∷ zeros-any mostReads k i ∷ []) []) ∙ literal-told (bit k p) (bit k n) k (0x80 + k) 0
 
-  pub read-negated : k < 16 → bit k (c .«read_plain») ≡ false → bit k (c .«read_negated») ≡ true → bitOr 0x80 k ∷ 0 ∷ [] ≡ readLiteral c k
-  unfolding readLiteral
-  read-negated h e f =
-      ap (λ (b : ℕ). b ∷ 0 ∷ []) (or-shifted 1 7 k (omega arith))
-      ∙ literal-negated (bit k (c .«read_plain»)) (bit k (c .«read_negated»)) (k ∷ 0 ∷ []) ((0x80 + k) ∷ 0 ∷ []) e f
-
-  pub read-none : bit k (c .«read_plain») ≡ false → bit k (c .«read_negated») ≡ false → [] ≡ readLiteral c k
-  unfolding readLiteral
-  read-none = literal-none (bit k (c .«read_plain»)) (bit k (c .«read_negated»)) (k ∷ 0 ∷ []) ((0x80 + k) ∷ 0 ∷ [])
-
-  pub output-plain : k < 12 → bit k (c .«out_plain») ≡ true → bitOr 0x40 k ∷ rank c k ∷ [] ≡ outputLiteral c k
-  unfolding outputLiteral
-  output-plain h e =
-      ap (λ (b : ℕ). b ∷ rank c k ∷ []) (or-shifted 1 6 k (omega arith))
-      ∙ literal-plain (bit k (c .«out_plain»)) (bit k (c .«out_negated»)) ((0x40 + k) ∷ rank c k ∷ []) ((0xC0 + k) ∷ rank c k ∷ []) e
-
-  pub output-negated : k < 12 → bit k (c .«out_plain») ≡ false → bit k (c .«out_negated») ≡ true → bitOr 0xC0 k ∷ rank c k ∷ [] ≡ outputLiteral c k
-  unfolding outputLiteral
-  output-negated h e f =
-      ap (λ (b : ℕ). b ∷ rank c k ∷ []) (or-shifted 3 6 k (omega arith))
-      ∙ literal-negated (bit k (c .«out_plain»)) (bit k (c .«out_negated»)) ((0x40 + k) ∷ rank c k ∷ []) ((0xC0 + k) ∷ rank c k ∷ []) e f
-
-  pub output-none : bit k (c .«out_plain») ≡ false → bit k (c .«out_negated») ≡ false → [] ≡ outputLiteral c k
-  unfolding outputLiteral
-  output-none = literal-none (bit k (c .«out_plain»)) (bit k (c .«out_negated»)) ((0x40 + k) ∷ rank c k ∷ []) ((0xC0 + k) ∷ rank c k ∷ [])
+  output-told : literalAt 0x40 (c .«out_plain») (outs c) (c .ranks) k ≡ outputLiteral c k
+  unfolding literalAt outputLiteral
+  output-told =
+      let p = c .«out_plain» in
+      let n = c .«out_negated» in
+      let e : 0x80 + (0x40 + k) ≡ 0xC0 + k = omega arith in
+      (λ i. cond (bit-or k p n i) (cond (bit k p) (0x40 + k) (e i) ∷ rank c k ∷ []) []) ∙ literal-told (bit k p) (bit k n) (0x40 + k) (0xC0 + k) (rank c k)
 
 -- what gives nothing from r on
-pub joined-short : (f : ℕ → List ℕ) (r more : ℕ) → ((k : ℕ) → r ≤ k → f k ≡ []) → joined (more + r) f ≡ joined r f
+joined-short : (f : ℕ → List ℕ) (r more : ℕ) → ((k : ℕ) → r ≤ k → f k ≡ []) → joined (more + r) f ≡ joined r f
 unfolding joined
 joined-short f r zero h = ap (λ (j : ℕ). joined j f) (zero-add r)
 joined-short f r (suc more) h =
     let e : suc more + r ≡ suc (more + r) = omega arith in
     ap (λ (j : ℕ). joined j f) e ∙ ap₂ _++_ (joined-short f r more h) (h (more + r) (omega arith)) ∙ append-nil (joined r f)
 
-module _ (r n : ℕ) (c : Constraint) (few : r ≤ 16) (fewer : n ≤ 12) (ms : Masks r n c) where
-  no-read : (k : ℕ) → r ≤ k → readLiteral c k ≡ []
-  no-read k h =
-      sym (read-none c k
-      (bit-above r k (c .«read_plain») (ms .read-plain) h)
-      (bit-above r k (c .«read_negated») (ms .read-negated) h))
+module _ (base plain named : ℕ) (ranks : List ℕ) where
+  -- the literal of point k, told by what is left of the word
+  pub literal-here : (k left number : ℕ) → left ≡ named / 2 ^ k → number ≡ signedBy (bit k plain) (base + k)
+      → cond (eqb (left % 2) 1) (number ∷ getD ranks k 0 ∷ []) [] ≡ literalAt base plain named ranks k
+  unfolding bit odd literalAt
+  literal-here k left number e n = λ i. cond (eqb (e i % 2) 1) (n i ∷ getD ranks k 0 ∷ []) []
 
-  no-output : (k : ℕ) → n ≤ k → outputLiteral c k ≡ []
-  no-output k h =
-      sym (output-none c k
-      (bit-above n k (c .«out_plain») (ms .out-plain) h)
-      (bit-above n k (c .«out_negated») (ms .out-negated) h))
+  literal-none : (k : ℕ) → bit k named ≡ false → literalAt base plain named ranks k ≡ []
+  unfolding literalAt
+  literal-none k e = ap (λ (b : Bool). cond b (signedBy (bit k plain) (base + k) ∷ getD ranks k 0 ∷ []) []) e
 
-  -- a constraint of r read points and n outputs has no literals of others
-  pub literals-within : joined r (readLiteral c) ++ joined n (outputLiteral c) ≡ literalBody c
-  unfolding literalBody
-  literals-within =
-      let reads : 16 - r + r ≡ 16 = omega arith in
-      let outputs : 12 - n + n ≡ 12 = omega arith in
-      sym (ap₂ _++_
-      (ap (λ (j : ℕ). joined j (readLiteral c)) (sym reads) ∙ joined-short (readLiteral c) r (16 - r) no-read)
-      (ap (λ (j : ℕ). joined j (outputLiteral c)) (sym outputs) ∙ joined-short (outputLiteral c) n (12 - n) no-output))
+  -- where nothing is left, all literals are there
+  pub literals-end : (k left : ℕ) → k ≤ length ranks → left ≡ named / 2 ^ k → left ≤ 0 → joined k (literalAt base plain named ranks) ≡ literalsAt base plain named ranks
+  literals-end k left h e none =
+      let f = literalAt base plain named ranks in
+      let whole : length ranks - k + k ≡ length ranks = omega arith in
+      sym (joined-short f k (length ranks - k) (λ j l. literal-none j (rest-none named k left e none j l))) ∙ ap (λ (j : ℕ). joined j f) whole
 
-  -- its masks have no bits beyond the most points
-  pub masks-few : (bitOr (c .«read_plain») (c .«read_negated») < 2 ^ 16) × (outs c < 2 ^ 12)
-  masks-few = (
-    lt-of-lt-of-le (or-lt r (c .«read_plain») (c .«read_negated») (ms .read-plain) (ms .read-negated)) (pow-mono {i = r} {j = 16} few),
-    lt-of-lt-of-le (outs-lt r n c ms) (pow-mono {i = n} {j = 12} fewer),
-  )
+joined-same : (f g : ℕ → List ℕ) → ((k : ℕ) → f k ≡ g k) → (n : ℕ) → joined n f ≡ joined n g
+unfolding joined
+joined-same f g e zero = refl
+joined-same f g e (suc n) = ap₂ _++_ (joined-same f g e n) (e n)
+
+-- the literals of the read points, and then those of the outputs, are the constraint's
+pub literals-told : (c : Constraint) → length (c .ranks) ≡ mostOutputs
+    → literalsAt 0 (c .«read_plain») (bitOr (c .«read_plain») (c .«read_negated»)) (replicate mostReads 0) ++ literalsAt 0x40 (c .«out_plain») (outs c) (c .ranks) ≡ literalBody c
+unfolding literalBody
+literals-told c long =
+    ap₂ _++_ (joined-same _ (readLiteral c) (read-told c) mostReads)
+    (joined-same _ (outputLiteral c) (output-told c) (length (c .ranks)) ∙ ap (λ (n : ℕ). joined n (outputLiteral c)) long)
+
+-- a constraint in use of a well-formed set has no bits beyond the most points
+pub masks-few : (s : Set) → wellFormed s ≡ true → (i : ℕ) → i < s .m
+    → let c = constraint s i in (bitOr (c .«read_plain») (c .«read_negated») < 2 ^ mostReads) × (outs c < 2 ^ mostOutputs)
+masks-few s ok i h =
+    let c = constraint s i in
+    let k = counts s ok in
+    let ms = masks s ok i h in (
+      lt-of-lt-of-le (or-lt (s .r) (c .«read_plain») (c .«read_negated») (ms .read-plain) (ms .read-negated)) (pow-mono {i = s .r} {j = mostReads} (k .r-le)),
+      lt-of-lt-of-le (outs-lt (s .r) (s .n) c ms) (pow-mono {i = s .n} {j = mostOutputs} (k .n-le)),
+    )
 
 -- ---- how many bytes they are
 
@@ -120,15 +144,14 @@ joined-long f p h (suc n) =
     let e : length (joined n f) ≡ 2 * count n p = joined-long f p h n in
     omega (arith, length-append (joined n f) (f n), e, h n)
 
+ones-in : (n w : ℕ) → w < 2 ^ n → ones w ≡ onesIn n w
+unfolding onesIn ones
+ones-in zero w h = ap ones (lt-one h)
+ones-in (suc n) w h = ones-step w ∙ ap (λ (x : ℕ). w % 2 + x) (ones-in n (w / 2) (half-lt n w h))
+
 -- the count of ones of a word of n bits
-ones-below : (n w : ℕ) → n ≤ 16 → w < 2 ^ n → ones w ≡ count n (λ k. bit k w)
-unfolding popcount
-ones-below n w few h =
-    let width : 16 ≡ n + (16 - n) = omega arith in
-    ones-popcount w (lt-of-lt-of-le h (pow-mono {i = n} {j = 16} few))
-    ∙ ones-count 16 w
-    ∙ ap (λ (x : ℕ). count x (λ k. bit k w)) width
-    ∙ count-beyond n (16 - n) (λ k. bit k w) (λ k l. bit-above n k w h l)
+ones-below : (n w : ℕ) → w < 2 ^ n → ones w ≡ count n (λ k. bit k w)
+ones-below n w h = ones-in n w h ∙ ones-count n w
 
 module _ (c : Constraint) where
   read-long : (k : ℕ) → length (readLiteral c k) ≡ 2 * cond (bit k (bitOr (c .«read_plain») (c .«read_negated»))) 1 0
@@ -143,15 +166,15 @@ module _ (c : Constraint) where
       literal-long (bit k (c .«out_plain»)) (bit k (c .«out_negated»)) (0x40 + k) (rank c k) (0xC0 + k) (rank c k)
       ∙ ap (λ (b : Bool). 2 * cond b 1 0) (sym (bit-or k (c .«out_plain») (c .«out_negated»)))
 
-  -- two for each one of the masks, no more than for 28 points
-  pub literals-long : bitOr (c .«read_plain») (c .«read_negated») < 2 ^ 16 → outs c < 2 ^ 12
-      → (2 * (ones (bitOr (c .«read_plain») (c .«read_negated»)) + ones (outs c)) ≡ length (literalBody c)) × (length (literalBody c) ≤ 56)
+  -- two for each one of the masks, no more than for the most points
+  pub literals-long : bitOr (c .«read_plain») (c .«read_negated») < 2 ^ mostReads → outs c < 2 ^ mostOutputs
+      → (2 * (ones (bitOr (c .«read_plain») (c .«read_negated»)) + ones (outs c)) ≡ length (literalBody c)) × (length (literalBody c) ≤ 2 * (mostReads + mostOutputs))
   unfolding literalBody
   literals-long hr ho =
       let reads : ℕ = bitOr (c .«read_plain») (c .«read_negated») in
-      let lr = joined-long (readLiteral c) (λ k. bit k reads) read-long 16 in
-      let lo = joined-long (outputLiteral c) (λ k. bit k (outs c)) output-long 12 in
-      let both = length-append (joined 16 (readLiteral c)) (joined 12 (outputLiteral c)) in (
-        omega (arith, lr, lo, both, ones-below 16 reads (omega arith) hr, ones-below 12 (outs c) (omega arith) ho),
-        omega (arith, lr, lo, both, count-le 16 (λ k. bit k reads), count-le 12 (λ k. bit k (outs c))),
+      let lr = joined-long (readLiteral c) (λ k. bit k reads) read-long mostReads in
+      let lo = joined-long (outputLiteral c) (λ k. bit k (outs c)) output-long mostOutputs in
+      let both = length-append (joined mostReads (readLiteral c)) (joined mostOutputs (outputLiteral c)) in (
+        omega (arith, lr, lo, both, ones-below mostReads reads hr, ones-below mostOutputs (outs c) ho),
+        omega (arith, lr, lo, both, count-le mostReads (λ k. bit k reads), count-le mostOutputs (λ k. bit k (outs c))),
       )

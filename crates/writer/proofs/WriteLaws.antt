@@ -16,7 +16,7 @@ use Rattle.scan.specs.declared.set.Kind.{Kind}
 use Rattle.scan.specs.declared.set.Kind.the-variants.{Sensor, PastOutput, PastSensor}
 use Rattle.scan.specs.declared.set.ReadPoint.{ReadPoint}
 use Rattle.scan.specs.declared.set.Set.{Set}
-use Rattle.scan.specs.Set.{noRead, noOutput, noConstraint}
+use Rattle.scan.specs.Set.{namePlaces, noRead, noOutput, noConstraint}
 use Rattle.scan.specs.Names.{zeroAt, nameLength, nameBytes}
 use Rattle.scan.specs.Shape.{wellFormed}
 use Rattle.scan.proofs.ShapeLaws.{counts, lengths}
@@ -106,7 +106,7 @@ field-put buf at tag len body mid after next place e h p q =
 -- ---- names and kinds
 
 -- the bytes before the first zero are the name's
-pub name-ends : (name : List ℕ) (k : ℕ) → k ≤ length name → k ≡ first 8 (zeroAt name) → k ≡ length (nameBytes name)
+pub name-ends : (name : List ℕ) (k : ℕ) → k ≤ length name → k ≡ first namePlaces (zeroAt name) → k ≡ length (nameBytes name)
 unfolding nameBytes nameLength
 name-ends name k h e = sym (length-take-le k name h) ∙ ap (λ (j : ℕ). length (take j name)) e
 

@@ -5,40 +5,40 @@ use header::TAG_OUTPUT;
 use header::TAG_READ;
 use scan::Constraint;
 use scan::Kind;
+use scan::MOST_READS;
+use scan::NAME_PLACES;
 use scan::OutputPoint;
 use scan::ReadPoint;
 ghost use mathlib.Core.Path.{_≡_};
-ghost use mathlib.Core.Bool.{true};
+ghost use mathlib.Core.Bool.{cond};
 ghost use mathlib.Core.List.{[], _∷_};
-ghost use Prim.Native.Nat.{_+_, _/_, _%_, _^_, _≤_, _<_};
+ghost use Prim.Native.Nat.{_+_, _*_, _/_, _%_, _^_, _≤_, _<_};
 ghost use lib.ListN.{length};
 ghost use lib.Bits.{bitOr};
-ghost use Rattle.words.specs.Loop.{every};
-ghost use Rattle.scan.specs.Set.{outs};
+ghost use Rattle.scan.specs.Set.{mostReads, mostOutputs, namePlaces, outs};
 ghost use Rattle.scan.specs.Names.{nameBytes};
-ghost use Rattle.scan.specs.Shape.{constraintTests};
-ghost use Rattle.writer.specs.Write.{fieldOf, kindBytes, readBody, outputBody, readLiteral, outputLiteral, joined, literalBody};
-ghost use Rattle.writer.specs.way.Write.{Put};
+ghost use Rattle.writer.specs.Write.{fieldOf, kindBytes, readBody, outputBody, literalBody};
+ghost use Rattle.writer.specs.way.Write.{signedBy, literalsAt, Put};
 
 // How many bytes the name has: those before the first zero.
-pub fn name_length(name: [u8; 8]) -> usize
-    ensures { λ r. ⌜ (r ≡ length (nameBytes name)) × (r ≤ 8) ⌝ }
+pub fn name_length(name: [u8; NAME_PLACES]) -> usize
+    ensures { λ r. ⌜ (r ≡ length (nameBytes name)) × (r ≤ namePlaces) ⌝ }
 {
     let mut k: usize = 0;
-    while k < 8 {
+    while k < NAME_PLACES {
         let c = name[k];
         if c == 0 {
             return k;
         }
         k = k + 1;
     }
-    8
+    NAME_PLACES
 }
 
 // The length of a constraint's body: two bytes for each literal.
 pub fn literals_length(c: Constraint) -> usize
-    requires { ⌜ (bitOr (c .«read_plain») (c .«read_negated») < 2 ^ 16) × (outs c < 2 ^ 12) ⌝ }
-    ensures { λ r. ⌜ (r ≡ length (literalBody c)) × (r ≤ 56) ⌝ }
+    requires { ⌜ (bitOr (c .«read_plain») (c .«read_negated») < 2 ^ mostReads) × (outs c < 2 ^ mostOutputs) ⌝ }
+    ensures { λ r. ⌜ (r ≡ length (literalBody c)) × (r ≤ 2 * (mostReads + mostOutputs)) ⌝ }
 {
     let reads = u32::count_ones(c.read_plain | c.read_negated);
     let outputs = u16::count_ones(c.out_plain | c.out_negated);
@@ -66,7 +66,7 @@ pub fn put_header(buf: &mut [u8], at: usize, tag: u8, len: usize) -> usize
 }
 
 // The `len` bytes of a name.
-fn put_name(buf: &mut [u8], at: usize, name: [u8; 8], len: usize) -> usize
+fn put_name(buf: &mut [u8], at: usize, name: [u8; NAME_PLACES], len: usize) -> usize
     requires { ⌜ (len ≡ length (nameBytes name)) × (at + length (nameBytes name) ≤ length (now buf)) ⌝ }
     ensures { λ r. ⌜ Put (now (buf .entry)) at (nameBytes name) (now (buf .exit)) r ⌝ }
 {
@@ -92,7 +92,7 @@ fn put_kind(buf: &mut [u8], at: usize, kind: Kind) -> usize
 
 // The field of the counts.
 pub fn put_counts(buf: &mut [u8], at: usize, r: usize, n: usize) -> usize
-    requires { ⌜ (r ≤ 16) × (n ≤ 12) × (at + 5 ≤ length (now buf)) ⌝ }
+    requires { ⌜ (r ≤ mostReads) × (n ≤ mostOutputs) × (at + 5 ≤ length (now buf)) ⌝ }
     ensures { λ x. ⌜ Put (now (buf .entry)) at (fieldOf 0x01 (r ∷ n ∷ [])) (now (buf .exit)) x ⌝ }
 {
     let body = put_header(&mut *buf, at, TAG_COUNTS, 2);
@@ -123,71 +123,59 @@ pub fn put_output(buf: &mut [u8], at: usize, p: OutputPoint) -> usize
     put_name(&mut *buf, body, name, len)
 }
 
-// The literal of read point k, if the constraint has one.
-fn put_read_literal(buf: &mut [u8], at: usize, c: Constraint, k: usize) -> usize
-    requires { ⌜ (k < 16) × (at + length (readLiteral c k) ≤ length (now buf)) ⌝ }
-    ensures { λ r. ⌜ Put (now (buf .entry)) at (readLiteral c k) (now (buf .exit)) r ⌝ }
+// The two bytes, where they are to be there.
+fn put_literal(buf: &mut [u8], at: usize, here: bool, first: u8, second: u8) -> usize
+    requires { ⌜ at + length (cond here (first ∷ second ∷ []) []) ≤ length (now buf) ⌝ }
+    ensures { λ r. ⌜ Put (now (buf .entry)) at (cond here (first ∷ second ∷ []) []) (now (buf .exit)) r ⌝ }
 {
-    let number = k as u8;
-    if words::bit32(k, c.read_plain) {
-        return put_two(&mut *buf, at, number, 0);
-    }
-    if words::bit32(k, c.read_negated) {
-        return put_two(&mut *buf, at, 0x80 | number, 0);
+    if here {
+        return put_two(&mut *buf, at, first, second);
     }
     at
 }
 
-// The literal of output k, if the constraint has one.
-fn put_output_literal(buf: &mut [u8], at: usize, c: Constraint, k: usize) -> usize
-    requires { ⌜ (k < 12) × (at + length (outputLiteral c k) ≤ length (now buf)) ⌝ }
-    ensures { λ r. ⌜ Put (now (buf .entry)) at (outputLiteral c k) (now (buf .exit)) r ⌝ }
+// The number of a literal's point, with the top bit set where it is negated.
+fn signed(plain: bool, number: u8) -> u8
+    requires { ⌜ number < 0x80 ⌝ }
+    ensures { λ r. ⌜ r ≡ signedBy plain number ⌝ }
 {
-    let number = k as u8;
-    let rank = c.ranks[k];
-    if words::bit16(k, c.out_plain) {
-        return put_two(&mut *buf, at, 0x40 | number, rank);
-    }
-    if words::bit16(k, c.out_negated) {
-        return put_two(&mut *buf, at, 0xC0 | number, rank);
-    }
-    at
+    if plain { number } else { 0x80 + number }
 }
 
-// The literals of r read points.
-fn put_read_literals(buf: &mut [u8], at: usize, c: Constraint, r: usize) -> usize
-    requires { ⌜ (r ≤ 16) × (at + length (joined r (readLiteral c)) ≤ length (now buf)) ⌝ }
-    ensures { λ x. ⌜ Put (now (buf .entry)) at (joined r (readLiteral c)) (now (buf .exit)) x ⌝ }
+// The literals of the points that are named, numbered from `base` on, each with its rank.
+fn put_literals(buf: &mut [u8], at: usize, base: u8, plain: u32, named: u32, ranks: &[u8]) -> usize
+    requires { ⌜ (base ≤ 0x40) × (length (now ranks) < 32) × (named < 2 ^ length (now ranks)) × (at + length (literalsAt base plain named (now ranks)) ≤ length (now buf)) ⌝ }
+    ensures { λ r. ⌜ Put (now (buf .entry)) at (literalsAt base plain named (now (ranks .entry))) (now (buf .exit)) r ⌝ }
 {
     let mut next = at;
+    let mut left = named;
     let mut k: usize = 0;
-    while k < r {
-        next = put_read_literal(&mut *buf, next, c, k);
+    while 0 < left {
+        let number = signed((plain >> k) % 2 == 1, base + k as u8);
+        next = put_literal(&mut *buf, next, left % 2 == 1, number, ranks[k]);
+        left = left / 2;
         k = k + 1;
     }
     next
 }
 
-// The literals of n outputs.
-fn put_output_literals(buf: &mut [u8], at: usize, c: Constraint, n: usize) -> usize
-    requires { ⌜ (n ≤ 12) × (at + length (joined n (outputLiteral c)) ≤ length (now buf)) ⌝ }
-    ensures { λ x. ⌜ Put (now (buf .entry)) at (joined n (outputLiteral c)) (now (buf .exit)) x ⌝ }
-{
-    let mut next = at;
-    let mut k: usize = 0;
-    while k < n {
-        next = put_output_literal(&mut *buf, next, c, k);
-        k = k + 1;
-    }
-    next
-}
-
-// The field of a constraint of r read points and n outputs.
-pub fn put_constraint(buf: &mut [u8], at: usize, c: Constraint, r: usize, n: usize) -> usize
-    requires { ⌜ (r ≤ 16) × (n ≤ 12) × (every (constraintTests r n c) ≡ true) × (at + length (fieldOf 0x04 (literalBody c)) ≤ length (now buf)) ⌝ }
+// The field of a constraint.
+pub fn put_constraint(buf: &mut [u8], at: usize, c: Constraint) -> usize
+    requires { ⌜ (bitOr (c .«read_plain») (c .«read_negated») < 2 ^ mostReads) × (outs c < 2 ^ mostOutputs) × (at + length (fieldOf 0x04 (literalBody c)) ≤ length (now buf)) ⌝ }
     ensures { λ x. ⌜ Put (now (buf .entry)) at (fieldOf 0x04 (literalBody c)) (now (buf .exit)) x ⌝ }
 {
+    let unranked = [0u8; MOST_READS];
+    let ranks = c.ranks;
+    let reads = c.read_plain | c.read_negated;
+    let outputs = c.out_plain | c.out_negated;
     let body = put_header(&mut *buf, at, TAG_CONSTRAINT, literals_length(c));
-    let outputs = put_read_literals(&mut *buf, body, c, r);
-    put_output_literals(&mut *buf, outputs, c, n)
+    let next = put_literals(&mut *buf, body, 0, c.read_plain, reads, &unranked);
+    put_literals(
+        &mut *buf,
+        next,
+        0x40,
+        c.out_plain as u32,
+        outputs as u32,
+        &ranks,
+    )
 }

@@ -11,8 +11,9 @@ use scan::Set;
 use shape::well_formed;
 ghost use mathlib.Core.Path.{_≡_};
 ghost use mathlib.Core.Bool.{true};
-ghost use Prim.Native.Nat.{_+_, _≤_};
+ghost use Prim.Native.Nat.{_+_, _*_, _≤_};
 ghost use lib.ListN.{length};
+ghost use Rattle.scan.specs.Set.{mostReads, mostOutputs, mostConstraints, namePlaces};
 ghost use Rattle.scan.specs.Shape.{wellFormed};
 ghost use Rattle.writer.specs.Write.{writeOf, writeAnswer, bufferAfter};
 ghost use Rattle.writer.specs.way.Write.{readFields, outputFields, constraintFields, putAt, Put};
@@ -50,7 +51,7 @@ fn file_length(set: Set) -> usize
 
 fn reads_length(set: Set) -> usize
     requires { ⌜ wellFormed set ≡ true ⌝ }
-    ensures { λ x. ⌜ (x ≡ length (readFields set)) × (x ≤ 208) ⌝ }
+    ensures { λ x. ⌜ (x ≡ length (readFields set)) × (x ≤ mostReads * (5 + namePlaces)) ⌝ }
 {
     let r = set.r;
     let mut len: usize = 0;
@@ -66,7 +67,7 @@ fn reads_length(set: Set) -> usize
 
 fn outputs_length(set: Set) -> usize
     requires { ⌜ wellFormed set ≡ true ⌝ }
-    ensures { λ x. ⌜ (x ≡ length (outputFields set)) × (x ≤ 132) ⌝ }
+    ensures { λ x. ⌜ (x ≡ length (outputFields set)) × (x ≤ mostOutputs * (3 + namePlaces)) ⌝ }
 {
     let n = set.n;
     let mut len: usize = 0;
@@ -82,7 +83,7 @@ fn outputs_length(set: Set) -> usize
 
 fn constraints_length(set: Set) -> usize
     requires { ⌜ wellFormed set ≡ true ⌝ }
-    ensures { λ x. ⌜ (x ≡ length (constraintFields set)) × (x ≤ 3776) ⌝ }
+    ensures { λ x. ⌜ (x ≡ length (constraintFields set)) × (x ≤ mostConstraints * (3 + 2 * (mostReads + mostOutputs))) ⌝ }
 {
     let m = set.m;
     let mut len: usize = 0;
@@ -132,14 +133,12 @@ fn put_constraints(buf: &mut [u8], at: usize, set: Set) -> usize
     requires { ⌜ (wellFormed set ≡ true) × (at + length (constraintFields set) ≤ length (now buf)) ⌝ }
     ensures { λ x. ⌜ Put (now (buf .entry)) at (constraintFields set) (now (buf .exit)) x ⌝ }
 {
-    let r = set.r;
-    let n = set.n;
     let m = set.m;
     let mut next = at;
     let mut i: usize = 0;
     while i < m {
         let c = set.constraints[i];
-        next = put_constraint(&mut *buf, next, c, r, n);
+        next = put_constraint(&mut *buf, next, c);
         i = i + 1;
     }
     next

@@ -2,10 +2,12 @@
 -- Assumes nothing.
 use Prim.Native.Nat.{ℕ, _+_}
 use mathlib.Core.Path.{_≡_}
-use mathlib.Core.List.{List, _++_}
-use lib.ListN.{length, take, drop}
+use mathlib.Core.Bool.{Bool, cond}
+use mathlib.Core.List.{List, [], _∷_, _++_}
+use lib.ListN.{length, getD, take, drop}
+use Rattle.words.specs.Word.{bit}
 use Rattle.scan.specs.declared.set.Set.{Set}
-use Rattle.writer.specs.Write.{fieldsOf, readBody, outputBody, literalBody}
+use Rattle.writer.specs.Write.{readBody, outputBody, joined, literalBody, fieldsOf}
 
 -- the fields of a set's read points
 abbrev pub readFields : Set → List ℕ
@@ -18,6 +20,18 @@ outputFields s = fieldsOf 0x03 outputBody (take (s .n) (s .outputs))
 -- the fields of its constraints
 abbrev pub constraintFields : Set → List ℕ
 constraintFields s = fieldsOf 0x04 literalBody (take (s .m) (s .constraints))
+
+-- a point's number in a literal, with the top bit set where the point is negated
+abbrev pub signedBy : Bool → ℕ → ℕ
+signedBy plain number = cond plain number (0x80 + number)
+
+-- the literal of point k, numbered from `base` on, if the point is named
+unfoldable pub literalAt : ℕ → ℕ → ℕ → List ℕ → ℕ → List ℕ
+literalAt base plain named ranks k = cond (bit k named) (signedBy (bit k plain) (base + k) ∷ getD ranks k 0 ∷ []) []
+
+-- the literals of as many points as there are ranks
+abbrev pub literalsAt : ℕ → ℕ → ℕ → List ℕ → List ℕ
+literalsAt base plain named ranks = joined (length ranks) (literalAt base plain named ranks)
 
 -- the buffer with bytes put at a place
 abbrev pub putAt : List ℕ → ℕ → List ℕ → List ℕ

@@ -5,6 +5,7 @@ use Prim.Native.Nat.{ℕ, _+_, _-_, _≤_}
 use native.Mathlib.Omega.{arith}
 use lib.ListN.{length, getD}
 use Rattle.words.specs.Loop.{all}
+use Rattle.scan.specs.Set.{namePlaces}
 use Rattle.scan.specs.Names.{zeroAt}
 use Rattle.shape.specs.way.Names.{nextOk}
 use Rattle.shape.proofs.NamesWayLaws.{followsOk, follows-none, follows-more, name-follows}
@@ -13,12 +14,12 @@ use Rattle.shape.proofs.names.is_name.Statement.{statement}
 use Rattle.shape.proofs.names.is_name.Tie as tie
 
 abbrev Inv-loop : tie.InvT-loop
-Inv-loop name before₀ ok₀ k₀ before ok k = (k ≤ 8) × (before ≡ getD name (k - 1) 0) × (ok ≡ (not (zeroAt name 0) && all k (followsOk name)))
+Inv-loop name before₀ ok₀ k₀ before ok k = (k ≤ namePlaces) × (before ≡ getD name (k - 1) 0) × (ok ≡ (not (zeroAt name 0) && all k (followsOk name)))
 
 abbrev μ-loop : tie.MeasureT-loop
-μ-loop name before₀ ok₀ k₀ before ok k = 8 - k
+μ-loop name before₀ ok₀ k₀ before ok k = namePlaces - k
 
-long : (c : tie.Start Inv-loop μ-loop) → length (c .args .t1) ≡ 8
+long : (c : tie.Start Inv-loop μ-loop) → length (c .args .t1) ≡ namePlaces
 long c = search needs
 
 array-read-before : tie.Need-array-read-before Inv-loop μ-loop
@@ -59,7 +60,7 @@ returns c =
     let l = c .before .loop in
     let s = c .before .before in
     let name = s .args .t1 in
-    let all-passed : l .k ≡ 8 = omega arith in
+    let all-passed : l .k ≡ namePlaces = omega arith in
     name-follows name (long s) (l .ok) (l .inv .2 ∙ ap (λ (k : ℕ). not (zeroAt name 0) && all k (followsOk name)) all-passed)
 
 pub is-name-spec : {M : Type 1} → statement M

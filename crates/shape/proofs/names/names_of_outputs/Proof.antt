@@ -2,20 +2,20 @@
 use mathlib.Core.Path.{refl}
 use Prim.Native.Nat.{ℕ, _-_}
 use lib.ListN.{replicate}
-use Rattle.scan.specs.Set.{outputPoint, zeroName}
+use Rattle.scan.specs.Set.{mostOutputs, outputPoint, zeroName}
 use Rattle.shape.proofs.NamesWayLaws.{Placed, placed-none, placed-one, placed-all}
 use borrow.Author.Needs.{needs}
 use Rattle.shape.proofs.names.names_of_outputs.Statement.{statement}
 use Rattle.shape.proofs.names.names_of_outputs.Tie as tie
 
 abbrev Inv-loop : tie.InvT-loop
-Inv-loop outputs names₀ k₀ names k = Placed 12 (λ (j : ℕ). outputPoint outputs j .name) names k
+Inv-loop outputs names₀ k₀ names k = Placed mostOutputs (λ (j : ℕ). outputPoint outputs j .name) names k
 
 abbrev μ-loop : tie.MeasureT-loop
-μ-loop outputs names₀ k₀ names k = 12 - k
+μ-loop outputs names₀ k₀ names k = mostOutputs - k
 
 loop-holds : tie.Need-loop-holds Inv-loop μ-loop
-loop-holds c = placed-none 12 _ (replicate 12 zeroName) refl
+loop-holds c = placed-none mostOutputs _ (replicate mostOutputs zeroName) refl
 
 mul-p : tie.Need-mul-p Inv-loop μ-loop
 mul-p c = search needs
@@ -39,12 +39,12 @@ loop-again : tie.Need-loop-again Inv-loop μ-loop
 loop-again c =
     let t = c .before .before in
     let l = t .before .loop in
-    placed-one 12 (λ (j : ℕ). outputPoint (t .before .before .args .t1) j .name) (l .names) (l .k) _ (l .inv) (t .loop-test .taken) refl
+    placed-one mostOutputs (λ (j : ℕ). outputPoint (t .before .before .args .t1) j .name) (l .names) (l .k) _ (l .inv) (t .loop-test .taken) refl
 
 returns : tie.Need-returns Inv-loop μ-loop
 returns c =
     let l = c .before .loop in
-    placed-all 12 (λ (j : ℕ). outputPoint (c .before .before .args .t1) j .name) (l .names) (l .k) (l .inv) (c .loop-test .left)
+    placed-all mostOutputs (λ (j : ℕ). outputPoint (c .before .before .args .t1) j .name) (l .names) (l .k) (l .inv) (c .loop-test .left)
 
 pub names-of-outputs-spec : {M : Type 1} → statement M
 names-of-outputs-spec =

@@ -2,20 +2,20 @@
 use mathlib.Core.Path.{refl}
 use Prim.Native.Nat.{ℕ, _-_}
 use lib.ListN.{replicate}
-use Rattle.scan.specs.Set.{readPoint, zeroName}
+use Rattle.scan.specs.Set.{mostReads, readPoint, zeroName}
 use Rattle.shape.proofs.NamesWayLaws.{Placed, placed-none, placed-one, placed-all}
 use borrow.Author.Needs.{needs}
 use Rattle.shape.proofs.names.names_of_reads.Statement.{statement}
 use Rattle.shape.proofs.names.names_of_reads.Tie as tie
 
 abbrev Inv-loop : tie.InvT-loop
-Inv-loop reads names₀ k₀ names k = Placed 16 (λ (j : ℕ). readPoint reads j .name) names k
+Inv-loop reads names₀ k₀ names k = Placed mostReads (λ (j : ℕ). readPoint reads j .name) names k
 
 abbrev μ-loop : tie.MeasureT-loop
-μ-loop reads names₀ k₀ names k = 16 - k
+μ-loop reads names₀ k₀ names k = mostReads - k
 
 loop-holds : tie.Need-loop-holds Inv-loop μ-loop
-loop-holds c = placed-none 16 _ (replicate 16 zeroName) refl
+loop-holds c = placed-none mostReads _ (replicate mostReads zeroName) refl
 
 mul-p : tie.Need-mul-p Inv-loop μ-loop
 mul-p c = search needs
@@ -39,12 +39,12 @@ loop-again : tie.Need-loop-again Inv-loop μ-loop
 loop-again c =
     let t = c .before .before in
     let l = t .before .loop in
-    placed-one 16 (λ (j : ℕ). readPoint (t .before .before .args .t1) j .name) (l .names) (l .k) _ (l .inv) (t .loop-test .taken) refl
+    placed-one mostReads (λ (j : ℕ). readPoint (t .before .before .args .t1) j .name) (l .names) (l .k) _ (l .inv) (t .loop-test .taken) refl
 
 returns : tie.Need-returns Inv-loop μ-loop
 returns c =
     let l = c .before .loop in
-    placed-all 16 (λ (j : ℕ). readPoint (c .before .before .args .t1) j .name) (l .names) (l .k) (l .inv) (c .loop-test .left)
+    placed-all mostReads (λ (j : ℕ). readPoint (c .before .before .args .t1) j .name) (l .names) (l .k) (l .inv) (c .loop-test .left)
 
 pub names-of-reads-spec : {M : Type 1} → statement M
 names-of-reads-spec =

@@ -6,13 +6,14 @@ use native.Mathlib.Omega.{arith}
 use lib.ListN.{length, getD, take, set, replicate}
 use lib.Seq.{take-length}
 use denote.Ref.{now}
+use Rattle.scan.specs.Set.{namePlaces}
 use Rattle.shape.proofs.NamesWayLaws.{pad-one}
 use borrow.Author.Needs.{needs}
 use Rattle.shape.proofs.names.pad.Statement.{statement}
 use Rattle.shape.proofs.names.pad.Tie as tie
 
 abbrev Inv-loop : tie.InvT-loop
-Inv-loop bytes name₀ k₀ name k = (k ≤ length bytes) × (name ≡ take k bytes ++ replicate (8 - k) 0)
+Inv-loop bytes name₀ k₀ name k = (k ≤ length bytes) × (name ≡ take k bytes ++ replicate (namePlaces - k) 0)
 
 abbrev μ-loop : tie.MeasureT-loop
 μ-loop bytes name₀ k₀ name k = length bytes - k
@@ -43,7 +44,7 @@ returns : tie.Need-returns Inv-loop μ-loop
 returns c =
     let b = now (c .before .before .args .bytes) in
     let e : c .before .loop .k ≡ length b = omega arith in
-    c .before .loop .inv .1 ∙ ap (λ (k : ℕ). take k b ++ replicate (8 - k) 0) e ∙ ap (λ (l : List ℕ). l ++ replicate (8 - length b) 0) (take-length b)
+    c .before .loop .inv .1 ∙ ap (λ (k : ℕ). take k b ++ replicate (namePlaces - k) 0) e ∙ ap (λ (l : List ℕ). l ++ replicate (namePlaces - length b) 0) (take-length b)
 
 pub pad-spec : {M : Type 1} → statement M
 pad-spec =

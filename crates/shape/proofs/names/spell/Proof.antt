@@ -2,58 +2,50 @@
 use mathlib.Core.Path.{sym, ap, _∙_}
 use mathlib.Core.Bool.{true}
 use mathlib.Core.List.{List}
-use Prim.Native.Nat.{ℕ}
+use Prim.Native.Nat.{ℕ, _≤_}
 use denote.Ref.{now}
-use borrow.Author.Tests.{not-true, not-false}
-use Rattle.shape.proofs.SpellingLaws.{spell-empty, spell-long, spell-strange, spell-name}
+use lib.ListN.{length}
+use Rattle.scan.specs.Set.{namePlaces}
+use Rattle.shape.proofs.SpellingLaws.{length-right, spell-length, spell-strange, spell-name}
 use borrow.Author.Needs.{needs}
 use Rattle.shape.proofs.names.spell.Statement.{statement}
 use Rattle.shape.proofs.names.spell.Tie as tie
 
-no-name-requires : tie.Need-no-name-requires
-no-name-requires c κs = search needs
+-- where the length is right
+fit : (c : tie.Then1) → let n = length (now (c .before .before .before .args .bytes)) in (1 ≤ n) × (n ≤ namePlaces)
+fit c = length-right (now (c .before .before .before .args .bytes)) (sym (c .before .is-length-ok .ensures) ∙ c .if1 .taken)
 
-returns : tie.Need-returns
-returns c = c .no-name .ensures ∙ spell-empty (now (c .before .before .before .args .bytes)) (c .before .if1 .taken)
-
-no-name-requires-2 : tie.Need-no-name-requires-2
-no-name-requires-2 c κs = search needs
-
-returns-2 : tie.Need-returns-2
-returns-2 c = c .no-name2 .ensures ∙ spell-long (now (c .before .before .before .before .args .bytes)) (c .before .if2 .taken)
+is-length-ok-requires : tie.Need-is-length-ok-requires
+is-length-ok-requires c κs = search needs
 
 are-name-bytes-requires : tie.Need-are-name-bytes-requires
 are-name-bytes-requires c κs = search needs
 
-no-name-requires-3 : tie.Need-no-name-requires-3
-no-name-requires-3 c κs = search needs
+pad-requires : tie.Need-pad-requires
+pad-requires c κs = fit (c .before .before) .1
+
+returns : tie.Need-returns
+returns c =
+    let n = c .before .before in
+    let t = n .before in
+    ap (λ (name : List ℕ). record { good = true; name = name }) (c .pad .ensures)
+    ∙ spell-name (now (t .before .before .before .args .bytes)) (fit t .0) (fit t .1) (sym (n .are-name-bytes .ensures) ∙ c .before .if2 .taken)
+
+returns-2 : tie.Need-returns-2
+returns-2 c =
+    let n = c .before in
+    spell-strange (now (n .before .before .before .before .args .bytes)) (sym (n .are-name-bytes .ensures) ∙ c .if2 .left)
 
 returns-3 : tie.Need-returns-3
-returns-3 c =
-    let n = c .before .before in
-    c .no-name3 .ensures
-    ∙ spell-strange (now (n .before .before .before .before .args .bytes)) (sym (n .are-name-bytes .ensures) ∙ not-true _ (c .before .if3 .taken))
-
-pad-requires : tie.Need-pad-requires
-pad-requires c κs = search needs
-
-returns-4 : tie.Need-returns-4
-returns-4 c =
-    let n = c .before .before in
-    let e = n .before in
-    ap (λ (name : List ℕ). record { good = true; name = name }) (c .pad .ensures)
-    ∙ spell-name (now (e .before .before .before .args .bytes)) (e .before .if1 .left) (e .if2 .left) (sym (n .are-name-bytes .ensures) ∙ not-false _ (c .before .if3 .left))
+returns-3 c = spell-length (now (c .before .before .before .args .bytes)) (sym (c .before .is-length-ok .ensures) ∙ c .if1 .left)
 
 pub spell-spec : {M : Type 1} → statement M
 spell-spec =
     tie.close
     (tie.spec
-    no-name-requires
-    returns
-    no-name-requires-2
-    returns-2
+    is-length-ok-requires
     are-name-bytes-requires
-    no-name-requires-3
-    returns-3
     pad-requires
-    returns-4)
+    returns
+    returns-2
+    returns-3)

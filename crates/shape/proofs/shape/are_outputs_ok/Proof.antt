@@ -1,6 +1,7 @@
 -- `shape::shape::are_outputs_ok` meets its contract. The loop's invariant: `ok` tells whether the places before j are right. Assumes nothing.
 use Prim.Native.Nat.{_-_}
 use denote.Ref.{now}
+use Rattle.scan.specs.Set.{mostOutputs}
 use Rattle.shape.specs.way.Shape.{outputPlaceBy}
 use Rattle.words.proofs.LoopTurns.{Passed, passed-none, passed-one, passed-all}
 use borrow.Author.Needs.{needs}
@@ -8,13 +9,13 @@ use Rattle.shape.proofs.shape.are_outputs_ok.Statement.{statement}
 use Rattle.shape.proofs.shape.are_outputs_ok.Tie as tie
 
 abbrev Inv-loop : tie.InvT-loop
-Inv-loop reads r outputs n ok₀ j₀ ok j = Passed 12 (outputPlaceBy reads r outputs n) ok j
+Inv-loop reads r outputs n ok₀ j₀ ok j = Passed mostOutputs (outputPlaceBy reads r outputs n) ok j
 
 abbrev μ-loop : tie.MeasureT-loop
-μ-loop reads r outputs n ok₀ j₀ ok j = 12 - j
+μ-loop reads r outputs n ok₀ j₀ ok j = mostOutputs - j
 
 loop-holds : tie.Need-loop-holds Inv-loop μ-loop
-loop-holds c = passed-none 12 _
+loop-holds c = passed-none mostOutputs _
 
 is-output-place-ok-requires : tie.Need-is-output-place-ok-requires Inv-loop μ-loop
 is-output-place-ok-requires c κs = search needs
@@ -34,14 +35,14 @@ loop-again c =
     let t = p .before in
     let l = t .before .loop in
     let a = t .before .before .args in
-    passed-one 12 (outputPlaceBy (now (a .reads)) (a .r) (now (a .outputs)) (a .n)) (l .j) (l .ok) (p .is-output-place-ok .result) (c .both .result) (l .inv) (t .loop-test .taken)
+    passed-one mostOutputs (outputPlaceBy (now (a .reads)) (a .r) (now (a .outputs)) (a .n)) (l .j) (l .ok) (p .is-output-place-ok .result) (c .both .result) (l .inv) (t .loop-test .taken)
     (p .is-output-place-ok .ensures) (c .both .ensures)
 
 returns : tie.Need-returns Inv-loop μ-loop
 returns c =
     let l = c .before .loop in
     let a = c .before .before .args in
-    passed-all 12 (outputPlaceBy (now (a .reads)) (a .r) (now (a .outputs)) (a .n)) (l .j) (l .ok) (l .inv) (c .loop-test .left)
+    passed-all mostOutputs (outputPlaceBy (now (a .reads)) (a .r) (now (a .outputs)) (a .n)) (l .j) (l .ok) (l .inv) (c .loop-test .left)
 
 pub are-outputs-ok-spec : {M : Type 1} → statement M
 are-outputs-ok-spec =

@@ -2,7 +2,7 @@
 use Prim.Native.Nat.{_-_}
 use mir.Syntax.{w8}
 use mir.Val.{Fits}
-use Rattle.scan.specs.Set.{rank}
+use Rattle.scan.specs.Set.{mostOutputs, rank}
 use Rattle.scan.specs.Shape.{rankOk}
 use Rattle.words.proofs.LoopTurns.{Passed, passed-none, passed-one, passed-all}
 use Rattle.shape.proofs.ShapeWayLaws.{rank-test}
@@ -11,16 +11,16 @@ use Rattle.shape.proofs.shape.are_ranks_ok.Statement.{statement}
 use Rattle.shape.proofs.shape.are_ranks_ok.Tie as tie
 
 abbrev Inv-loop : tie.InvT-loop
-Inv-loop c named ok₀ k₀ ok k = Passed 12 (rankOk c) ok k
+Inv-loop c named ok₀ k₀ ok k = Passed mostOutputs (rankOk c) ok k
 
 abbrev μ-loop : tie.MeasureT-loop
-μ-loop c named ok₀ k₀ ok k = 12 - k
+μ-loop c named ok₀ k₀ ok k = mostOutputs - k
 
 byte : (c : tie.In-loop Inv-loop μ-loop) → Fits w8 (rank (c .before .before .args .t1) (c .before .loop .k))
 byte c = search needs
 
 loop-holds : tie.Need-loop-holds Inv-loop μ-loop
-loop-holds c = passed-none 12 _
+loop-holds c = passed-none mostOutputs _
 
 bit16-requires : tie.Need-bit16-requires Inv-loop μ-loop
 bit16-requires c κs = search needs
@@ -46,13 +46,13 @@ loop-again c =
     let b = e .before .before in
     let l = b .before .before .loop in
     let d = b .before .before .before .args .t1 in
-    passed-one 12 (rankOk d) (l .k) (l .ok) (e .either .result) (c .both .result) (l .inv) (b .before .loop-test .taken)
+    passed-one mostOutputs (rankOk d) (l .k) (l .ok) (e .either .result) (c .both .result) (l .inv) (b .before .loop-test .taken)
     (rank-test d (l .k) (b .bit16 .result) (e .either .result) (byte (b .before) .fits) (b .bit16 .ensures) (e .either .ensures)) (c .both .ensures)
 
 returns : tie.Need-returns Inv-loop μ-loop
 returns c =
     let l = c .before .loop in
-    passed-all 12 (rankOk (c .before .before .args .t1)) (l .k) (l .ok) (l .inv) (c .loop-test .left)
+    passed-all mostOutputs (rankOk (c .before .before .args .t1)) (l .k) (l .ok) (l .inv) (c .loop-test .left)
 
 pub are-ranks-ok-spec : {M : Type 1} → statement M
 are-ranks-ok-spec =

@@ -1,6 +1,7 @@
 -- `shape::shape::are_ranks_zero` meets its contract. The loop's invariant: `ok` tells whether the ranks before k are 0. Assumes nothing.
 use mathlib.Core.Path.{refl}
 use Prim.Native.Nat.{_-_}
+use Rattle.scan.specs.Set.{mostOutputs}
 use Rattle.scan.specs.Shape.{rankZero}
 use Rattle.words.proofs.LoopTurns.{Passed, passed-none, passed-one, passed-all}
 use borrow.Author.Needs.{needs}
@@ -8,13 +9,13 @@ use Rattle.shape.proofs.shape.are_ranks_zero.Statement.{statement}
 use Rattle.shape.proofs.shape.are_ranks_zero.Tie as tie
 
 abbrev Inv-loop : tie.InvT-loop
-Inv-loop c ok₀ k₀ ok k = Passed 12 (rankZero c) ok k
+Inv-loop c ok₀ k₀ ok k = Passed mostOutputs (rankZero c) ok k
 
 abbrev μ-loop : tie.MeasureT-loop
-μ-loop c ok₀ k₀ ok k = 12 - k
+μ-loop c ok₀ k₀ ok k = mostOutputs - k
 
 loop-holds : tie.Need-loop-holds Inv-loop μ-loop
-loop-holds c = passed-none 12 _
+loop-holds c = passed-none mostOutputs _
 
 element-copy-out-both : tie.Need-element-copy-out-both Inv-loop μ-loop
 element-copy-out-both c = search needs
@@ -32,12 +33,12 @@ loop-again : tie.Need-loop-again Inv-loop μ-loop
 loop-again c =
     let t = c .before .before in
     let l = t .before .loop in
-    passed-one 12 (rankZero (t .before .before .args .t1)) (l .k) (l .ok) _ (c .both .result) (l .inv) (t .loop-test .taken) refl (c .both .ensures)
+    passed-one mostOutputs (rankZero (t .before .before .args .t1)) (l .k) (l .ok) _ (c .both .result) (l .inv) (t .loop-test .taken) refl (c .both .ensures)
 
 returns : tie.Need-returns Inv-loop μ-loop
 returns c =
     let l = c .before .loop in
-    passed-all 12 (rankZero (c .before .before .args .t1)) (l .k) (l .ok) (l .inv) (c .loop-test .left)
+    passed-all mostOutputs (rankZero (c .before .before .args .t1)) (l .k) (l .ok) (l .inv) (c .loop-test .left)
 
 pub are-ranks-zero-spec : {M : Type 1} → statement M
 are-ranks-zero-spec =

@@ -2,7 +2,7 @@
 use mathlib.Core.Path.{ap, _∙_}
 use Prim.Native.Nat.{ℕ, _-_}
 use denote.Ref.{now}
-use Rattle.scan.specs.Set.{readPoint}
+use Rattle.scan.specs.Set.{mostReads, readPoint}
 use Rattle.scan.specs.Shape.{readPlace}
 use Rattle.shape.specs.way.Shape.{readPlaceBy}
 use Rattle.words.proofs.LoopTurns.{Passed, passed-none, passed-one, passed-all}
@@ -12,16 +12,16 @@ use Rattle.shape.proofs.shape.are_reads_ok.Statement.{statement}
 use Rattle.shape.proofs.shape.are_reads_ok.Tie as tie
 
 abbrev Inv-loop : tie.InvT-loop
-Inv-loop names r n reads sensors ok₀ k₀ ok k = Passed 16 (readPlace reads r n) ok k
+Inv-loop names r n reads sensors ok₀ k₀ ok k = Passed mostReads (readPlace reads r n) ok k
 
 abbrev μ-loop : tie.MeasureT-loop
-μ-loop names r n reads sensors ok₀ k₀ ok k = 16 - k
+μ-loop names r n reads sensors ok₀ k₀ ok k = mostReads - k
 
 sensors-of-requires : tie.Need-sensors-of-requires Inv-loop μ-loop
 sensors-of-requires c κs = search needs
 
 loop-holds : tie.Need-loop-holds Inv-loop μ-loop
-loop-holds c = passed-none 16 _
+loop-holds c = passed-none mostReads _
 
 mul-p : tie.Need-mul-p Inv-loop μ-loop
 mul-p c = search needs
@@ -49,7 +49,7 @@ loop-again c =
     let s = t .before .before in
     let a = s .before .args in
     let names = now (a .names) in
-    passed-one 16 (readPlace (a .t2) (a .r) (a .n)) (l .k) (l .ok) (p .is-read-place-ok .result) (c .both .result) (l .inv) (t .loop-test .taken)
+    passed-one mostReads (readPlace (a .t2) (a .r) (a .n)) (l .k) (l .ok) (p .is-read-place-ok .result) (c .both .result) (l .inv) (t .loop-test .taken)
     (p .is-read-place-ok .ensures
     ∙ ap (λ (w : ℕ). readPlaceBy names w (a .r) (a .n) (l .k) (readPoint (a .t2) (l .k))) (s .sensors-of .ensures)
     ∙ by-place names (a .t2) (s .before .pre) (a .r) (a .n) (l .k) (t .loop-test .taken))
@@ -59,7 +59,7 @@ returns : tie.Need-returns Inv-loop μ-loop
 returns c =
     let l = c .before .loop in
     let a = c .before .before .before .args in
-    passed-all 16 (readPlace (a .t2) (a .r) (a .n)) (l .k) (l .ok) (l .inv) (c .loop-test .left)
+    passed-all mostReads (readPlace (a .t2) (a .r) (a .n)) (l .k) (l .ok) (l .inv) (c .loop-test .left)
 
 pub are-reads-ok-spec : {M : Type 1} → statement M
 are-reads-ok-spec =

@@ -2,12 +2,13 @@
 use mathlib.Core.Path.{_≡_}
 use lib.ListN.{length}
 use Rattle.words.proofs.ListLaws.{mapped-long}
+use Rattle.scan.specs.Set.{mostOutputs}
 use Rattle.shape.proofs.ShapeWayLaws.{constraint-right}
 use borrow.Author.Needs.{needs}
 use Rattle.shape.proofs.shape.is_constraint_ok.Statement.{statement}
 use Rattle.shape.proofs.shape.is_constraint_ok.Tie as tie
 
-long : (c : tie.Start) → length (c .args .c .ranks) ≡ 12
+long : (c : tie.Start) → length (c .args .c .ranks) ≡ mostOutputs
 long c = search (needs, mapped-long)
 
 fits32-requires : tie.Need-fits32-requires

@@ -2,12 +2,13 @@
 use mathlib.Core.Path.{_≡_}
 use lib.ListN.{length}
 use Rattle.words.proofs.ListLaws.{mapped-long}
+use Rattle.scan.specs.Set.{mostOutputs}
 use Rattle.shape.proofs.ShapeWayLaws.{constraint-zeros}
 use borrow.Author.Needs.{needs}
 use Rattle.shape.proofs.shape.is_constraint_zero.Statement.{statement}
 use Rattle.shape.proofs.shape.is_constraint_zero.Tie as tie
 
-long : (c : tie.Start) → length (c .args .c .ranks) ≡ 12
+long : (c : tie.Start) → length (c .args .c .ranks) ≡ mostOutputs
 long c = search (needs, mapped-long)
 
 both-requires : tie.Need-both-requires

@@ -17,11 +17,11 @@ element-copy-out-name c = search needs
 is-name-requires : tie.Need-is-name-requires
 is-name-requires c κs = search needs
 
-first-of-reads-requires : tie.Need-first-of-reads-requires
-first-of-reads-requires c κs = search needs
+first-of-requires : tie.Need-first-of-requires
+first-of-requires c κs = search needs
 
-first-of-outputs-requires : tie.Need-first-of-outputs-requires
-first-of-outputs-requires c κs = search needs
+first-of-requires-2 : tie.Need-first-of-requires-2
+first-of-requires-2 c κs = search needs
 
 both-requires : tie.Need-both-requires
 both-requires c κs = search needs
@@ -33,11 +33,11 @@ returns : tie.Need-returns
 unfolding outputBy
 returns c =
     let o = c .before .before in
-    let f = o .before in
-    let n = f .before in
+    let f = o .before .before in
+    let n = f .before .before in
     let a = n .before .before .args in
-    three (n .is-name .result) (eqb (f .first-of-reads .result) (a .r)) (eqb (o .first-of-outputs .result) (a .j)) _ _ _ (c .before .both .result) (c .both2 .result)
-    (n .is-name .ensures) (ap (λ (x : ℕ). eqb x (a .r)) (f .first-of-reads .ensures)) (ap (λ (x : ℕ). eqb x (a .j)) (o .first-of-outputs .ensures))
+    three (n .is-name .result) (eqb (f .first-of .result) (a .r)) (eqb (o .first-of2 .result) (a .j)) _ _ _ (c .before .both .result) (c .both2 .result)
+    (n .is-name .ensures) (ap (λ (x : ℕ). eqb x (a .r)) (f .first-of .ensures)) (ap (λ (x : ℕ). eqb x (a .j)) (o .first-of2 .ensures))
     (c .before .both .ensures) (c .both2 .ensures)
 
 pub is-output-ok-spec : {M : Type 1} → statement M
@@ -47,8 +47,8 @@ is-output-ok-spec =
     mul-name
     element-copy-out-name
     is-name-requires
-    first-of-reads-requires
-    first-of-outputs-requires
+    first-of-requires
+    first-of-requires-2
     both-requires
     both-requires-2
     returns)

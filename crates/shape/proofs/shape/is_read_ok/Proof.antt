@@ -14,8 +14,8 @@ is-kind-ok-requires c κs = search needs
 is-name-requires : tie.Need-is-name-requires
 is-name-requires c κs = search needs
 
-first-of-reads-requires : tie.Need-first-of-reads-requires
-first-of-reads-requires c κs = search needs
+first-of-requires : tie.Need-first-of-requires
+first-of-requires c κs = search needs
 
 both-requires : tie.Need-both-requires
 both-requires c κs = search needs
@@ -27,11 +27,11 @@ returns : tie.Need-returns
 unfolding readBy
 returns c =
     let f = c .before .before in
-    let n = f .before in
+    let n = f .before .before in
     let k = n .before in
     let at = k .before .before .args .k in
-    three (k .is-kind-ok .result) (n .is-name .result) (eqb (f .first-of-reads .result) at) _ _ _ (c .before .both .result) (c .both2 .result)
-    (k .is-kind-ok .ensures) (n .is-name .ensures) (ap (λ (x : ℕ). eqb x at) (f .first-of-reads .ensures)) (c .before .both .ensures) (c .both2 .ensures)
+    three (k .is-kind-ok .result) (n .is-name .result) (eqb (f .first-of .result) at) _ _ _ (c .before .both .result) (c .both2 .result)
+    (k .is-kind-ok .ensures) (n .is-name .ensures) (ap (λ (x : ℕ). eqb x at) (f .first-of .ensures)) (c .before .both .ensures) (c .both2 .ensures)
 
 pub is-read-ok-spec : {M : Type 1} → statement M
 is-read-ok-spec =
@@ -39,7 +39,7 @@ is-read-ok-spec =
     (tie.spec
     is-kind-ok-requires
     is-name-requires
-    first-of-reads-requires
+    first-of-requires
     both-requires
     both-requires-2
     returns)

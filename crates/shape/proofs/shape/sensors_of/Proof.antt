@@ -4,17 +4,17 @@ use Prim.Native.Nat.{ℕ, _≤_, _-_}
 use native.Mathlib.Omega.{arith}
 use Rattle.words.specs.Loop.{word}
 use Rattle.words.proofs.LoopTurns.{word-none, word-turn}
-use Rattle.scan.specs.Set.{readPoint}
+use Rattle.scan.specs.Set.{mostReads, readPoint}
 use Rattle.scan.specs.Shape.{isSensor}
 use borrow.Author.Needs.{needs}
 use Rattle.shape.proofs.shape.sensors_of.Statement.{statement}
 use Rattle.shape.proofs.shape.sensors_of.Tie as tie
 
 abbrev Inv-loop : tie.InvT-loop
-Inv-loop reads w₀ k₀ w k = (k ≤ 16) × (w ≡ word k (λ (j : ℕ). isSensor (readPoint reads j .kind)))
+Inv-loop reads w₀ k₀ w k = (k ≤ mostReads) × (w ≡ word k (λ (j : ℕ). isSensor (readPoint reads j .kind)))
 
 abbrev μ-loop : tie.MeasureT-loop
-μ-loop reads w₀ k₀ w k = 16 - k
+μ-loop reads w₀ k₀ w k = mostReads - k
 
 loop-holds : tie.Need-loop-holds Inv-loop μ-loop
 loop-holds c = (omega arith, word-none _)

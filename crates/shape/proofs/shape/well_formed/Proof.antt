@@ -4,6 +4,7 @@ use mathlib.Core.Bool.{true}
 use Prim.Native.Nat.{_≤_}
 use lib.ListN.{length}
 use Rattle.words.specs.Loop.{every}
+use Rattle.scan.specs.Set.{mostReads, mostOutputs, mostConstraints}
 use Rattle.scan.specs.Shape.{countTests}
 use Rattle.words.proofs.ListLaws.{mapped-long}
 use Rattle.scan.proofs.ShapeLaws.{counts-told}
@@ -12,20 +13,20 @@ use borrow.Author.Needs.{needs}
 use Rattle.shape.proofs.shape.well_formed.Statement.{statement}
 use Rattle.shape.proofs.shape.well_formed.Tie as tie
 
-long-reads : (c : tie.Start) → length (c .args .set .reads) ≡ 16
+long-reads : (c : tie.Start) → length (c .args .set .reads) ≡ mostReads
 long-reads c = search mapped-long
 
-long-outputs : (c : tie.Start) → length (c .args .set .outputs) ≡ 12
+long-outputs : (c : tie.Start) → length (c .args .set .outputs) ≡ mostOutputs
 long-outputs c = search mapped-long
 
-long-constraints : (c : tie.Start) → length (c .args .set .constraints) ≡ 64
+long-constraints : (c : tie.Start) → length (c .args .set .constraints) ≡ mostConstraints
 long-constraints c = search mapped-long
 
 -- past the first test
 counted : (c : tie.Then1) → every (countTests (c .before .before .args .set .r) (c .before .before .args .set .n) (c .before .before .args .set .m)) ≡ true
 counted c = sym (c .before .are-counts-ok .ensures) ∙ c .if1 .taken
 
-few-reads : (c : tie.Then1) → c .before .before .args .set .r ≤ 16
+few-reads : (c : tie.Then1) → c .before .before .args .set .r ≤ mostReads
 few-reads c = let s = c .before .before .args .set in counts-told (s .r) (s .n) (s .m) (counted c) .0
 
 are-counts-ok-requires : tie.Need-are-counts-ok-requires

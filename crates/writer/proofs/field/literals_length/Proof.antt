@@ -3,16 +3,16 @@ use Prim.Native.Nat.{_≤_}
 use native.Mathlib.Omega.{arith}
 use lib.Bits.{bitOr}
 use lib.Count.{ones, ones-le}
-use Rattle.scan.specs.Set.{outs}
+use Rattle.scan.specs.Set.{mostReads, mostOutputs, outs}
 use Rattle.writer.proofs.LiteralBodyLaws.{literals-long}
 use Rattle.writer.proofs.field.literals_length.Statement.{statement}
 use Rattle.writer.proofs.field.literals_length.Tie as tie
 
-few-reads : (c : tie.Start) → ones (bitOr (c .args .c .«read_plain») (c .args .c .«read_negated»)) ≤ 16
-few-reads c = ones-le 16 (bitOr (c .args .c .«read_plain») (c .args .c .«read_negated»)) (c .pre .0)
+few-reads : (c : tie.Start) → ones (bitOr (c .args .c .«read_plain») (c .args .c .«read_negated»)) ≤ mostReads
+few-reads c = ones-le mostReads (bitOr (c .args .c .«read_plain») (c .args .c .«read_negated»)) (c .pre .0)
 
-few-outputs : (c : tie.Start) → ones (outs (c .args .c)) ≤ 12
-few-outputs c = ones-le 12 (outs (c .args .c)) (c .pre .1)
+few-outputs : (c : tie.Start) → ones (outs (c .args .c)) ≤ mostOutputs
+few-outputs c = ones-le mostOutputs (outs (c .args .c)) (c .pre .1)
 
 cast-result : tie.Need-cast-result
 cast-result c = omega (arith, few-reads (c .before .before))

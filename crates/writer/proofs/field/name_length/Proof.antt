@@ -6,22 +6,23 @@ use Prim.Native.Nat.{_-_}
 use native.Mathlib.Omega.{arith}
 use lib.ListN.{length}
 use Rattle.words.proofs.LoopTurns.{Missed, missed-none, missed-one, missed-here, missed-all}
+use Rattle.scan.specs.Set.{namePlaces}
 use Rattle.scan.specs.Names.{zeroAt}
 use Rattle.writer.proofs.WriteLaws.{name-ends}
 use Rattle.writer.proofs.field.name_length.Statement.{statement}
 use Rattle.writer.proofs.field.name_length.Tie as tie
 
 abbrev Inv-loop : tie.InvT-loop
-Inv-loop name k₀ k = Missed 8 (zeroAt name) k
+Inv-loop name k₀ k = Missed namePlaces (zeroAt name) k
 
 abbrev μ-loop : tie.MeasureT-loop
-μ-loop name k₀ k = 8 - k
+μ-loop name k₀ k = namePlaces - k
 
-name-long : (c : tie.Start Inv-loop μ-loop) → length (c .args .t1) ≡ 8
+name-long : (c : tie.Start Inv-loop μ-loop) → length (c .args .t1) ≡ namePlaces
 name-long c = search needs
 
 loop-holds : tie.Need-loop-holds Inv-loop μ-loop
-loop-holds c = missed-none 8 (zeroAt (c .args .t1))
+loop-holds c = missed-none namePlaces (zeroAt (c .args .t1))
 
 array-read-c : tie.Need-array-read-c Inv-loop μ-loop
 array-read-c c = search needs
@@ -30,7 +31,7 @@ returns : tie.Need-returns Inv-loop μ-loop
 returns c =
     let a = c .before .before .before .args in
     let l = c .before .before .loop in (
-      name-ends (a .t1) (l .k) (omega (arith, name-long (c .before .before .before))) (missed-here 8 (zeroAt (a .t1)) (l .k) (l .inv) (c .before .loop-test .taken) (eq-eqb _ _ (c .if1 .taken))),
+      name-ends (a .t1) (l .k) (omega (arith, name-long (c .before .before .before))) (missed-here namePlaces (zeroAt (a .t1)) (l .k) (l .inv) (c .before .loop-test .taken) (eq-eqb _ _ (c .if1 .taken))),
       omega arith,
     )
 
@@ -44,13 +45,13 @@ loop-again : tie.Need-loop-again Inv-loop μ-loop
 loop-again c =
     let a = c .before .before .before .args in
     let l = c .before .before .loop in
-    missed-one 8 (zeroAt (a .t1)) (l .k) (l .inv) (c .before .loop-test .taken) (ne-eqb _ _ (c .if1 .left))
+    missed-one namePlaces (zeroAt (a .t1)) (l .k) (l .inv) (c .before .loop-test .taken) (ne-eqb _ _ (c .if1 .left))
 
 returns-2 : tie.Need-returns-2 Inv-loop μ-loop
 returns-2 c =
     let a = c .before .before .args in
     let l = c .before .loop in
-    (name-ends (a .t1) 8 (omega (arith, name-long (c .before .before))) (missed-all 8 (zeroAt (a .t1)) (l .k) (l .inv) (c .loop-test .left)), omega arith)
+    (name-ends (a .t1) namePlaces (omega (arith, name-long (c .before .before))) (missed-all namePlaces (zeroAt (a .t1)) (l .k) (l .inv) (c .loop-test .left)), omega arith)
 
 pub name-length-spec : {M : Type 1} → statement M
 name-length-spec =

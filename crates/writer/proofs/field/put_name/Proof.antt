@@ -7,6 +7,7 @@ use native.Mathlib.Omega.{arith}
 use lib.ListN.{length, getD, take, set}
 use lib.Seq.{length-take-le}
 use denote.Ref.{now}
+use Rattle.scan.specs.Set.{namePlaces}
 use Rattle.writer.specs.way.Write.{putAt}
 use Rattle.writer.proofs.WriteLaws.{put-nothing, put-kept, put-next, name-taken, name-short}
 use Rattle.writer.proofs.field.put_name.Statement.{statement}
@@ -18,10 +19,10 @@ Inv-loop buf₀ at len name k₀ buf k = (k ≤ len) × (buf ≡ putAt buf₀ at
 abbrev μ-loop : tie.MeasureT-loop
 μ-loop buf₀ at len name k₀ buf k = len - k
 
-name-long : (c : tie.Start Inv-loop μ-loop) → length (c .args .t3) ≡ 8
+name-long : (c : tie.Start Inv-loop μ-loop) → length (c .args .t3) ≡ namePlaces
 name-long c = search needs
 
-short : (c : tie.Start Inv-loop μ-loop) → c .args .len ≤ 8
+short : (c : tie.Start Inv-loop μ-loop) → c .args .len ≤ namePlaces
 short c = omega (arith, c .pre .0, name-short (c .args .t3), name-long c)
 
 -- the buffer keeps its length

@@ -3,8 +3,8 @@
 use Prim.Native.Nat.{_+_, _-_, _*_, _≤_}
 use native.Mathlib.Omega.{arith}
 use lib.ListN.{take}
-use Rattle.scan.specs.Set.{constraint}
-use Rattle.scan.proofs.ShapeLaws.{counts, masks}
+use Rattle.scan.specs.Set.{mostReads, mostOutputs, mostConstraints, constraint}
+use Rattle.scan.proofs.ShapeLaws.{counts}
 use Rattle.writer.specs.Write.{literalBody, fieldsOf}
 use Rattle.writer.proofs.LiteralBodyLaws.{masks-few}
 use Rattle.writer.proofs.WriteLaws.{constraints-grow, Counted, counted-none, counted-one, counted-all}
@@ -12,12 +12,12 @@ use Rattle.writer.proofs.writer.constraints_length.Statement.{statement
 use Rattle.writer.proofs.writer.constraints_length.Tie as tie
 
 abbrev Inv-loop : tie.InvT-loop
-Inv-loop set m len₀ i₀ len i = Counted (λ j. fieldsOf 0x04 literalBody (take j (set .constraints))) m len i × (len ≤ 59 * i)
+Inv-loop set m len₀ i₀ len i = Counted (λ j. fieldsOf 0x04 literalBody (take j (set .constraints))) m len i × (len ≤ (3 + 2 * (mostReads + mostOutputs)) * i)
 
 abbrev μ-loop : tie.MeasureT-loop
 μ-loop set m len₀ i₀ len i = m - i
 
-most : (c : tie.Start Inv-loop μ-loop) → c .args .t1 .m ≤ 64
+most : (c : tie.Start Inv-loop μ-loop) → c .args .t1 .m ≤ mostConstraints
 most c = counts (c .args .t1) (c .pre) .m-le
 
 loop-holds : tie.Need-loop-holds Inv-loop μ-loop
@@ -36,9 +36,7 @@ literals-length-requires : tie.Need-literals-length-requires Inv-loop μ-loop
 unfolding constraint
 literals-length-requires c κs =
     let s = c .before .before .before in
-    let set = s .args .t1 in
-    let i = c .before .before .loop .i in
-    masks-few (set .r) (set .n) (constraint set i) (counts set (s .pre) .r-le) (counts set (s .pre) .n-le) (masks set (s .pre) i (c .before .loop-test .taken))
+    masks-few (s .args .t1) (s .pre) (c .before .before .loop .i) (c .before .loop-test .taken)
 
 add-len-2 : tie.Need-add-len-2 Inv-loop μ-loop
 add-len-2 c = omega (arith, most (c .before .before .before .before), c .literals-length .ensures .1)

@@ -4,6 +4,7 @@ use borrow.Author.Needs.{needs}
 use Prim.Native.Nat.{_+_, _-_, _*_, _≤_}
 use native.Mathlib.Omega.{arith}
 use lib.ListN.{take}
+use Rattle.scan.specs.Set.{mostOutputs, namePlaces}
 use Rattle.scan.proofs.ShapeLaws.{counts}
 use Rattle.writer.specs.Write.{outputBody, fieldsOf}
 use Rattle.writer.proofs.WriteLaws.{outputs-grow, Counted, counted-none, counted-one, counted-all}
@@ -11,12 +12,12 @@ use Rattle.writer.proofs.writer.outputs_length.Statement.{statement}
 use Rattle.writer.proofs.writer.outputs_length.Tie as tie
 
 abbrev Inv-loop : tie.InvT-loop
-Inv-loop set n len₀ j₀ len j = Counted (λ i. fieldsOf 0x03 outputBody (take i (set .outputs))) n len j × (len ≤ 11 * j)
+Inv-loop set n len₀ j₀ len j = Counted (λ i. fieldsOf 0x03 outputBody (take i (set .outputs))) n len j × (len ≤ (3 + namePlaces) * j)
 
 abbrev μ-loop : tie.MeasureT-loop
 μ-loop set n len₀ j₀ len j = n - j
 
-most : (c : tie.Start Inv-loop μ-loop) → c .args .t1 .n ≤ 12
+most : (c : tie.Start Inv-loop μ-loop) → c .args .t1 .n ≤ mostOutputs
 most c = counts (c .args .t1) (c .pre) .n-le
 
 loop-holds : tie.Need-loop-holds Inv-loop μ-loop

@@ -1,33 +1,24 @@
 -- `writer::writer::put_constraints` meets its contract. The loop's invariant: the fields of the first i constraints are in place. Assumes nothing.
-use mathlib.Core.Path.{_≡_}
-use mathlib.Core.Bool.{true}
-use Prim.Native.Nat.{ℕ, _-_, _≤_, _<_}
+use Prim.Native.Nat.{_-_, _≤_}
 use native.Mathlib.Omega.{arith}
-use lib.ListN.{getD, take}
+use lib.ListN.{take}
 use denote.Ref.{now}
-use Rattle.words.specs.Loop.{every}
-use Rattle.scan.specs.Set.{noConstraint, constraint}
-use Rattle.scan.specs.Shape.{constraintTests}
-use Rattle.scan.proofs.ShapeLaws.{counts, constraint-ok}
+use Rattle.scan.specs.Set.{mostConstraints, constraint}
+use Rattle.scan.proofs.ShapeLaws.{counts}
 use Rattle.writer.specs.Write.{literalBody, fieldsOf}
+use Rattle.writer.proofs.LiteralBodyLaws.{masks-few}
 use Rattle.writer.proofs.WriteLaws.{constraints-grow, Puts, puts-none, puts-kept, puts-room, puts-one, puts-all}
 use Rattle.writer.proofs.writer.put_constraints.Statement.{statement}
 use Rattle.writer.proofs.writer.put_constraints.Tie as tie
 
 abbrev Inv-loop : tie.InvT-loop
-Inv-loop buf₀ at set r n m next₀ i₀ buf next i = Puts (λ j. fieldsOf 0x04 literalBody (take j (set .constraints))) m buf₀ at buf next i
+Inv-loop buf₀ at set m next₀ i₀ buf next i = Puts (λ j. fieldsOf 0x04 literalBody (take j (set .constraints))) m buf₀ at buf next i
 
 abbrev μ-loop : tie.MeasureT-loop
-μ-loop buf₀ at set r n m next₀ i₀ buf next i = m - i
+μ-loop buf₀ at set m next₀ i₀ buf next i = m - i
 
-most : (c : tie.Start Inv-loop μ-loop) → c .args .t3 .m ≤ 64
+most : (c : tie.Start Inv-loop μ-loop) → c .args .t3 .m ≤ mostConstraints
 most c = counts (c .args .t3) (c .pre .0) .m-le
-
--- a constraint in use passes its tests
-tests : (c : tie.Start Inv-loop μ-loop) (i : ℕ) → i < c .args .t3 .m
-    → every (constraintTests (c .args .t3 .r) (c .args .t3 .n) (getD (c .args .t3 .constraints) i noConstraint)) ≡ true
-unfolding constraint
-tests c i h = constraint-ok (c .args .t3) (c .pre .0) i h
 
 loop-holds : tie.Need-loop-holds Inv-loop μ-loop
 loop-holds c =
@@ -42,11 +33,14 @@ element-copy-out-c : tie.Need-element-copy-out-c Inv-loop μ-loop
 element-copy-out-c c = omega (arith, most (c .before .before .before))
 
 put-constraint-requires : tie.Need-put-constraint-requires Inv-loop μ-loop
+unfolding constraint
 put-constraint-requires c κs =
     let s = c .before .before .before .before .before in
     let a = s .args in
     let l = c .before .before .before .loop in
-    (omega (arith, counts (a .t3) (s .pre .0) .r-le), omega (arith, counts (a .t3) (s .pre .0) .n-le), tests s (l .i) (c .before .before .loop-test .taken), puts-room (constraints-grow (a .t3) (s .pre .0)) (now (a .buf)) (a .at) (s .pre .1) (l .buf) (l .next) (l .i) (l .inv) (c .before .before .loop-test .taken))
+    let h = c .before .before .loop-test .taken in
+    let few = masks-few (a .t3) (s .pre .0) (l .i) h in
+    (few .0, few .1, puts-room (constraints-grow (a .t3) (s .pre .0)) (now (a .buf)) (a .at) (s .pre .1) (l .buf) (l .next) (l .i) (l .inv) h)
 
 add-i : tie.Need-add-i Inv-loop μ-loop
 add-i c = omega (arith, most (c .before .before .before .before .before .before .before .before))

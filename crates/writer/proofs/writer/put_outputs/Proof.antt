@@ -3,6 +3,7 @@ use Prim.Native.Nat.{_-_, _≤_}
 use native.Mathlib.Omega.{arith}
 use lib.ListN.{take}
 use denote.Ref.{now}
+use Rattle.scan.specs.Set.{mostOutputs}
 use Rattle.scan.proofs.ShapeLaws.{counts}
 use Rattle.writer.specs.Write.{outputBody, fieldsOf}
 use Rattle.writer.proofs.WriteLaws.{outputs-grow, Puts, puts-none, puts-kept, puts-room, puts-one, puts-all}
@@ -15,7 +16,7 @@ Inv-loop buf₀ at set n next₀ j₀ buf next j = Puts (λ j. fieldsOf 0x03 out
 abbrev μ-loop : tie.MeasureT-loop
 μ-loop buf₀ at set n next₀ j₀ buf next j = n - j
 
-most : (c : tie.Start Inv-loop μ-loop) → c .args .t3 .n ≤ 12
+most : (c : tie.Start Inv-loop μ-loop) → c .args .t3 .n ≤ mostOutputs
 most c = counts (c .args .t3) (c .pre .0) .n-le
 
 loop-holds : tie.Need-loop-holds Inv-loop μ-loop

@@ -3,6 +3,7 @@ use Prim.Native.Nat.{_-_, _≤_}
 use native.Mathlib.Omega.{arith}
 use lib.ListN.{take}
 use denote.Ref.{now}
+use Rattle.scan.specs.Set.{mostReads}
 use Rattle.scan.proofs.ShapeLaws.{counts}
 use Rattle.writer.specs.Write.{readBody, fieldsOf}
 use Rattle.writer.proofs.WriteLaws.{reads-grow, Puts, puts-none, puts-kept, puts-room, puts-one, puts-all}
@@ -15,7 +16,7 @@ Inv-loop buf₀ at set r next₀ k₀ buf next k = Puts (λ j. fieldsOf 0x02 rea
 abbrev μ-loop : tie.MeasureT-loop
 μ-loop buf₀ at set r next₀ k₀ buf next k = r - k
 
-most : (c : tie.Start Inv-loop μ-loop) → c .args .t3 .r ≤ 16
+most : (c : tie.Start Inv-loop μ-loop) → c .args .t3 .r ≤ mostReads
 most c = counts (c .args .t3) (c .pre .0) .r-le
 
 loop-holds : tie.Need-loop-holds Inv-loop μ-loop

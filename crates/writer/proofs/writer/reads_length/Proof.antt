@@ -4,7 +4,7 @@ use borrow.Author.Needs.{needs}
 use Prim.Native.Nat.{_+_, _-_, _*_, _≤_}
 use native.Mathlib.Omega.{arith}
 use lib.ListN.{getD, take}
-use Rattle.scan.specs.Set.{noRead}
+use Rattle.scan.specs.Set.{mostReads, namePlaces, noRead}
 use Rattle.scan.proofs.ShapeLaws.{counts}
 use Rattle.writer.specs.Write.{readBody, fieldsOf}
 use Rattle.writer.proofs.WriteLaws.{read-long, reads-grow, Counted, counted-none, counted-one, counted-all}
@@ -12,12 +12,12 @@ use Rattle.writer.proofs.writer.reads_length.Statement.{statement}
 use Rattle.writer.proofs.writer.reads_length.Tie as tie
 
 abbrev Inv-loop : tie.InvT-loop
-Inv-loop set r len₀ k₀ len k = Counted (λ i. fieldsOf 0x02 readBody (take i (set .reads))) r len k × (len ≤ 13 * k)
+Inv-loop set r len₀ k₀ len k = Counted (λ i. fieldsOf 0x02 readBody (take i (set .reads))) r len k × (len ≤ (5 + namePlaces) * k)
 
 abbrev μ-loop : tie.MeasureT-loop
 μ-loop set r len₀ k₀ len k = r - k
 
-most : (c : tie.Start Inv-loop μ-loop) → c .args .t1 .r ≤ 16
+most : (c : tie.Start Inv-loop μ-loop) → c .args .t1 .r ≤ mostReads
 most c = counts (c .args .t1) (c .pre) .r-le
 
 loop-holds : tie.Need-loop-holds Inv-loop μ-loop
