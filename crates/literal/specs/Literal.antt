@@ -1,5 +1,6 @@
--- Literals, two bytes each. In the first, bit 7 marks a negated literal, bit 6 an output, bits 5 and 4 are zero, and the low four bits are the
--- point's number; the second is the rank. Tests 9 and 10 of each literal, front to back, then 11.
+-- Literals. A body says them in two bytes each: in the first, bit 7 marks a negated literal, bit 6 an output, bits 5 and 4 are zero, and the low four
+-- bits are the point's number; the second is the rank. What is said is then taken, whatever bytes it came from: tests 9 and 10 of each literal, front
+-- to back, then 11.
 -- Assumes nothing.
 use Prim.Native.Nat.{ℕ, _+_, _%_, _/_, _^_}
 use mathlib.Core.Bool.{Bool, true, false, cond, _&&_}
@@ -8,9 +9,12 @@ use lib.Dec.{ltb, leb, eqb}
 use lib.ListN.{set}
 use lib.Bits.{bitOr}
 use Rattle.scan.specs.declared.set.Constraint.{Constraint}
-use Rattle.scan.specs.Set.{zeroConstraint}
-use Rattle.literal.specs.declared.literal.Taken.the-variants.{Refused, Next}
+use Rattle.scan.specs.Set.{mostReads, zeroConstraint}
+use Rattle.literal.specs.declared.literal.Said.{Said}
+use Rattle.literal.specs.declared.literal.Taken.the-variants.{Refused, Good}
 use Rattle.literal.specs.declared.literal.Literals.{Literals}
+
+-- ---- what bytes say
 
 -- bit 7
 abbrev pub isNegated : ℕ → Bool
@@ -25,56 +29,73 @@ abbrev pub spare : ℕ → ℕ
 spare first = first / 2 ^ 4 % 4
 
 -- the low four bits
-abbrev pub number : ℕ → ℕ
-number first = first % 16
+abbrev pub fourBits : ℕ → ℕ
+fourBits first = first % 16
+
+-- the literal of two bytes
+abbrev pub narrow : ℕ → ℕ → Said
+narrow first rank = record { clear = eqb (spare first) 0; out = isOutput first; negated = isNegated first; number = fourBits first; rank = rank }
+
+-- the rest of a body that is too short for a literal: it is none. A body of a loaded field has an even length, so that it does not come
+abbrev pub torn : Said
+torn = record { clear = false; out = false; negated = false; number = 0; rank = 0 }
+
+-- the literals of a body, two bytes each
+unfoldable pub narrows : List ℕ → List Said
+narrows [] = []
+narrows (first ∷ []) = torn ∷ []
+narrows (first ∷ rank ∷ rest) = narrow first rank ∷ narrows rest
+
+-- ---- what is said, taken
 
 -- a literal's place in the order: read points by number, then outputs by number, signs ignored
-abbrev pub place : ℕ → ℕ
-place first = cond (isOutput first) (16 + number first) (number first)
+abbrev pub place : Said → ℕ
+place l = cond (l .out) (mostReads + l .number) (l .number)
 
--- not 9: bits 5 and 4 zero, the number of one of r read points or n outputs, no rank on a read point
-abbrev pub isLiteral : ℕ → ℕ → ℕ → ℕ → Bool
-isLiteral first rank r n =
-    eqb (spare first) 0 && cond (isOutput first) (ltb (number first) n) (eqb rank 0 && ltb (number first) r)
+-- not 9: the bits zero that have to be, the number of one of r read points or n outputs, no rank on a read point
+abbrev pub isLiteral : Said → ℕ → ℕ → Bool
+isLiteral l r n = l .clear && cond (l .out) (ltb (l .number) n) (eqb (l .rank) 0 && ltb (l .number) r)
 
 -- a mask with bit k set
 abbrev pub withBit : ℕ → ℕ → ℕ
 withBit mask k = bitOr mask (2 ^ k)
 
 -- a constraint with a literal more
-unfoldable pub withLiteral : Constraint → ℕ → ℕ → Constraint
-withLiteral c first rank =
-    cond (isOutput first)
-    (cond (isNegated first)
-    (record { «read_plain» = c .«read_plain»; «read_negated» = c .«read_negated»; «out_plain» = c .«out_plain»; «out_negated» = withBit (c .«out_negated») (number first); ranks = set (c .ranks) (number first) rank })
-    (record { «read_plain» = c .«read_plain»; «read_negated» = c .«read_negated»; «out_plain» = withBit (c .«out_plain») (number first); «out_negated» = c .«out_negated»; ranks = set (c .ranks) (number first) rank }))
-    (cond (isNegated first)
-    (record { «read_plain» = c .«read_plain»; «read_negated» = withBit (c .«read_negated») (number first); «out_plain» = c .«out_plain»; «out_negated» = c .«out_negated»; ranks = c .ranks })
-    (record { «read_plain» = withBit (c .«read_plain») (number first); «read_negated» = c .«read_negated»; «out_plain» = c .«out_plain»; «out_negated» = c .«out_negated»; ranks = c .ranks }))
+unfoldable pub withLiteral : Constraint → Said → Constraint
+withLiteral c l =
+    cond (l .out)
+    (cond (l .negated)
+    (record { «read_plain» = c .«read_plain»; «read_negated» = c .«read_negated»; «out_plain» = c .«out_plain»; «out_negated» = withBit (c .«out_negated») (l .number); ranks = set (c .ranks) (l .number) (l .rank) })
+    (record { «read_plain» = c .«read_plain»; «read_negated» = c .«read_negated»; «out_plain» = withBit (c .«out_plain») (l .number); «out_negated» = c .«out_negated»; ranks = set (c .ranks) (l .number) (l .rank) }))
+    (cond (l .negated)
+    (record { «read_plain» = c .«read_plain»; «read_negated» = withBit (c .«read_negated») (l .number); «out_plain» = c .«out_plain»; «out_negated» = c .«out_negated»; ranks = c .ranks })
+    (record { «read_plain» = withBit (c .«read_plain») (l .number); «read_negated» = c .«read_negated»; «out_plain» = c .«out_plain»; «out_negated» = c .«out_negated»; ranks = c .ranks }))
 
 -- a refusal, beside a constraint of zeros
 abbrev pub refusedLiterals : ℕ → Literals
 refusedLiterals number = record { taken = Refused number; made = zeroConstraint }
 
--- after the last literal: 11 where no output literal was taken; an output's place is 16 or more, so that the next one's is above 16
-abbrev pub lastLiteral : ℕ → Constraint → Literals
-lastLiteral next c = cond (leb next 16) (refusedLiterals 11) (record { taken = Next next; made = c })
+-- the constraint made of literals that were all taken
+abbrev pub goodLiterals : Constraint → Literals
+goodLiterals c = record { taken = Good; made = c }
 
--- 9, else 10, else what the rest of the body gives
+-- after the last literal: 11 where no output literal was taken; an output's place is mostReads or more, so that the next one's is above it
+abbrev pub lastLiteral : ℕ → Constraint → Literals
+lastLiteral next c = cond (leb next mostReads) (refusedLiterals 11) (goodLiterals c)
+
+-- 9, else 10, else what the other literals give
 abbrev pub literalThen : Bool → Bool → Literals → Literals
 literalThen false rises rest = refusedLiterals 9
 literalThen true false rest = refusedLiterals 10
 literalThen true true rest = rest
 
--- the literals of a body, added to a constraint; the next one's place must be at least `next`. A body of a loaded field has an even length,
--- so that the case of one byte does not come
-unfoldable pub literalsFrom : ℕ → ℕ → ℕ → Constraint → List ℕ → Literals
+-- literals added to a constraint; the next one's place must be at least `next`
+unfoldable pub literalsFrom : ℕ → ℕ → ℕ → Constraint → List Said → Literals
 literalsFrom r n next c [] = lastLiteral next c
-literalsFrom r n next c (first ∷ []) = refusedLiterals 9
-literalsFrom r n next c (first ∷ rank ∷ rest) =
-    let others = literalsFrom r n (place first + 1) (withLiteral c first rank) rest in
-    literalThen (isLiteral first rank r n) (leb next (place first)) others
+literalsFrom r n next c (l ∷ rest) =
+    let others = literalsFrom r n (place l + 1) (withLiteral c l) rest in
+    literalThen (isLiteral l r n) (leb next (place l)) others
 
 -- the constraint of a body, for a set of r read points and n outputs
 abbrev pub literalsOf : ℕ → ℕ → List ℕ → Literals
-literalsOf r n body = literalsFrom r n 0 zeroConstraint body
+literalsOf r n body = literalsFrom r n 0 zeroConstraint (narrows body)

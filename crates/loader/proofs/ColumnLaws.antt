@@ -4,7 +4,7 @@ use mathlib.Core.Path.{_≡_, refl, sym, ap, ap₂, subst, _∙_}
 use mathlib.Core.Bool.{Bool, true, false, cond, not, _&&_, _||_}
 use mathlib.Core.List.{List, [], _∷_, _++_}
 use mathlib.Core.Logic.{inl, inr, _↔_}
-use Prim.Native.Nat.{ℕ, zero, suc, _+_, _≤_}
+use Prim.Native.Nat.{ℕ, zero, suc, _+_, _≤_, _<_}
 use native.Mathlib.Omega.{arith}
 use lib.Dec.{ltb, leb, eqb}
 use lib.ListN.{length, getD, drop, length-drop, length-take}
@@ -15,7 +15,7 @@ use Rattle.scan.specs.declared.set.Kind.{Kind}
 use Rattle.scan.specs.declared.set.Kind.the-variants.{Sensor, PastOutput, PastSensor}
 use Rattle.scan.specs.declared.set.Constraint.{Constraint}
 use Rattle.scan.specs.declared.set.Set.{Set}
-use Rattle.scan.specs.Set.{mostConstraints, namePlaces, readPoint}
+use Rattle.scan.specs.Set.{mostReads, mostConstraints, namePlaces, readPoint}
 use Rattle.scan.specs.Names.{allNameBytes, padded, isUsed}
 use Rattle.scan.specs.Shape.{countTests, isSensor}
 use Rattle.shape.proofs.SpellingLaws.{spell-name, spell-strange}
@@ -26,13 +26,14 @@ use Rattle.loader.specs.declared.point.Point.the-variants.{Refused as De
 use Rattle.loader.specs.declared.point.NameField.{NameField}
 use Rattle.loader.specs.declared.point.ReadField.{ReadField}
 use Rattle.literal.specs.declared.literal.Taken.{Taken}
-use Rattle.literal.specs.declared.literal.Taken.the-variants.{Refused as Failed, Next}
+use Rattle.literal.specs.declared.literal.Taken.the-variants.{Refused as Failed, Good as Passed}
 use Rattle.literal.specs.declared.literal.Literals.{Literals}
 use Rattle.loader.specs.declared.loader.Progress.{Progress}
 use Rattle.loader.specs.declared.loader.Progress.the-variants.{At, Refused}
 use Rattle.header.specs.Test.{Test, test, FirstFails, NoneFails}
 use Rattle.header.specs.Header.{headerOf, bodyOf, bodyLength, isCut, isDue, fitsTable}
-use Rattle.literal.specs.Literal.{isOutput, number, place, isLiteral, withLiteral, refusedLiterals, literalThen, literalsFrom, literalsOf}
+use Rattle.literal.specs.declared.literal.Said.{Said}
+use Rattle.literal.specs.Literal.{narrows, place, isLiteral, withLiteral, refusedLiterals, goodLiterals, literalThen, literalsFrom, literalsOf}
 use Rattle.loader.specs.Load.{Loading, refusal, goingOn, thenFrom, andThen, taken, fieldBy, fieldAt, goodIf, countsTold, countsMade, countsAt}
 use Rattle.loader.specs.Load.{nameField, kindOf, readField, sensorAt, readOf, withRead, readAt, readsFrom, outputOf, withOutput, outputAt, outputsFrom}
 use Rattle.loader.specs.Load.{constraintDone, constraintAt, endAt, constraintsGiven, constraintsFrom, afterCounts, afterReads, answerOf, loadFrom, loadOf}
@@ -230,57 +231,74 @@ output-tells file at s j =
 
 abbrev TellsLiterals : ℕ → Taken → List Test → Type 0
 TellsLiterals at (Failed c) column = FirstFails column c at
-TellsLiterals at (Next next) column = NoneFails column
+TellsLiterals at Passed column = NoneFails column
 
 literals-behind : (at : ℕ) (t : Taken) (x : Test) (column : List Test) → x .fails ≡ false → TellsLiterals at t column → TellsLiterals at t (x ∷ column)
 literals-behind at (Failed c) x column n y = inr (n, y)
-literals-behind at (Next next) x column n y = (n, y)
+literals-behind at Passed x column n y = (n, y)
 
--- a literal whose place is not below `next` is an output's, or `next` is at most 16 and no output literal came before it
-eleven : (first next : ℕ) (later : Bool) → next ≤ place first → leb next 16 && not (isOutput first || later) ≡ leb (place first + 1) 16 && not later
-eleven first next later h = go (isOutput first) h
+-- each read literal that passes 9 is of a read place
+abbrev ReadsWithin : ℕ → ℕ → List Said → Type 0
+ReadsWithin r n [] = Unit {0}
+ReadsWithin r n (l ∷ rest) = (isLiteral l r n ≡ true → l .out ≡ false → l .number < mostReads) × ReadsWithin r n rest
+
+-- two bytes say a number below 16, and so one of a read place
+narrows-within : (r n : ℕ) (body : List ℕ) → ReadsWithin r n (narrows body)
+unfolding narrows
+narrows-within r n [] = tt
+narrows-within r n (first ∷ []) = (λ e o. omega arith, tt)
+narrows-within r n (first ∷ rank ∷ rest) = (λ e o. omega arith, narrows-within r n rest)
+
+-- a literal whose place is not below `next` is an output's, or `next` is at most mostReads and no output literal came before it
+eleven : (l : Said) (next : ℕ) (later : Bool) → (l .out ≡ false → l .number < mostReads) → next ≤ place l
+    → leb next mostReads && not (l .out || later) ≡ leb (place l + 1) mostReads && not later
+eleven l next later low h = go (l .out) low h
   where
-    go : (b : Bool) → next ≤ cond b (16 + number first) (number first)
-        → leb next 16 && not (b || later) ≡ leb (cond b (16 + number first) (number first) + 1) 16 && not later
-    go true l = and-none (leb next 16) ∙ ap (λ (x : Bool). x && not later) (sym (lt-leb (16 + number first + 1) 16 (omega arith)))
+    k : ℕ
+    k = l .number
+
+    go : (b : Bool) → (b ≡ false → k < mostReads) → next ≤ cond b (mostReads + k) k
+        → leb next mostReads && not (b || later) ≡ leb (cond b (mostReads + k) k + 1) mostReads && not later
+    go true w d = and-none (leb next mostReads) ∙ ap (λ (x : Bool). x && not later) (sym (lt-leb (mostReads + k + 1) mostReads (omega arith)))
       where
         and-none : (b : Bool) → b && false ≡ false
         and-none true = refl
         and-none false = refl
-    go false l = ap (λ (x : Bool). x && not later) (le-leb next 16 (omega arith) ∙ sym (le-leb (number first + 1) 16 (omega arith)))
+    go false w d =
+        let m = w refl in
+        ap (λ (x : Bool). x && not later) (le-leb next mostReads (omega arith) ∙ sym (le-leb (k + 1) mostReads (omega arith)))
 
--- the tests of literals, with 11 behind them: `next` is at most 16 where no output literal came before
-abbrev withEleven : ℕ → ℕ → ℕ → ℕ → List ℕ → List Test
-withEleven at r n next body = literalTests at r n next body ++ (test 11 at (leb next 16 && not (namesOutput body)) ∷ [])
+-- the tests of literals, with 11 behind them: `next` is at most mostReads where no output literal came before
+abbrev withEleven : ℕ → ℕ → ℕ → ℕ → List Said → List Test
+withEleven at r n next said = literalTests at r n next said ++ (test 11 at (leb next mostReads && not (namesOutput said)) ∷ [])
 
-literals-tell : (at r n next : ℕ) (c : Constraint) (body : List ℕ) → TellsLiterals at (literalsFrom r n next c body .taken) (withEleven at r n next body)
+literals-tell : (at r n next : ℕ) (c : Constraint) (said : List Said) → ReadsWithin r n said → TellsLiterals at (literalsFrom r n next c said .taken) (withEleven at r n next said)
 unfolding literalsFrom literalTests namesOutput
-literals-tell at r n next c [] = go (leb next 16)
+literals-tell at r n next c [] within = go (leb next mostReads)
   where
-    go : (b : Bool) → TellsLiterals at (cond b (refusedLiterals 11) (record { taken = Next next; made = c }) .taken) (test 11 at (b && true) ∷ [])
+    go : (b : Bool) → TellsLiterals at (cond b (refusedLiterals 11) (goodLiterals c) .taken) (test 11 at (b && true) ∷ [])
     go true = inl (refl, refl, refl)
     go false = (refl, tt)
-literals-tell at r n next c (first ∷ []) = inl (refl, refl, refl)
-literals-tell at r n next c (first ∷ rank ∷ rest) =
-    go (isLiteral first rank r n) (ltb (place first) next) refl (literals-tell at r n (place first + 1) (withLiteral c first rank) rest)
+literals-tell at r n next c (l ∷ rest) within =
+    go (isLiteral l r n) (ltb (place l) next) refl refl (literals-tell at r n (place l + 1) (withLiteral c l) rest (within .1))
   where
     others : Literals
-    others = literalsFrom r n (place first + 1) (withLiteral c first rank) rest
+    others = literalsFrom r n (place l + 1) (withLiteral c l) rest
 
     behind-two : List Test
-    behind-two = literalTests at r n (place first + 1) rest ++ (test 11 at (leb next 16 && not (isOutput first || namesOutput rest)) ∷ [])
+    behind-two = literalTests at r n (place l + 1) rest ++ (test 11 at (leb next mostReads && not (l .out || namesOutput rest)) ∷ [])
 
-    go : (literal below : Bool) → ltb (place first) next ≡ below → TellsLiterals at (others .taken) (withEleven at r n (place first + 1) rest)
-        → TellsLiterals at (literalThen literal (leb next (place first)) others .taken) (test 9 at (not literal) ∷ test 10 at below ∷ behind-two)
-    go false below e x = inl (refl, refl, refl)
-    go true true e x =
+    go : (literal below : Bool) → isLiteral l r n ≡ literal → ltb (place l) next ≡ below → TellsLiterals at (others .taken) (withEleven at r n (place l + 1) rest)
+        → TellsLiterals at (literalThen literal (leb next (place l)) others .taken) (test 9 at (not literal) ∷ test 10 at below ∷ behind-two)
+    go false below i e x = inl (refl, refl, refl)
+    go true true i e x =
         subst (λ (b : Bool). TellsLiterals at (literalThen true b others .taken) (test 9 at false ∷ test 10 at true ∷ behind-two))
-        (sym (lt-leb next (place first) (ltb-true (place first) next e))) (inr (refl, inl (refl, refl, refl)))
-    go true false e x =
-        let h : next ≤ place first = ltb-false (place first) next e in
-        let y = subst (λ (b : Bool). TellsLiterals at (others .taken) (literalTests at r n (place first + 1) rest ++ (test 11 at b ∷ [])))
-        (sym (eleven first next (namesOutput rest) h)) x in
-        subst (λ (b : Bool). TellsLiterals at (literalThen true b others .taken) (test 9 at false ∷ test 10 at false ∷ behind-two)) (sym (le-leb next (place first) h))
+        (sym (lt-leb next (place l) (ltb-true (place l) next e))) (inr (refl, inl (refl, refl, refl)))
+    go true false i e x =
+        let h : next ≤ place l = ltb-false (place l) next e in
+        let y = subst (λ (b : Bool). TellsLiterals at (others .taken) (literalTests at r n (place l + 1) rest ++ (test 11 at b ∷ [])))
+        (sym (eleven l next (namesOutput rest) (within .0 i) h)) x in
+        subst (λ (b : Bool). TellsLiterals at (literalThen true b others .taken) (test 9 at false ∷ test 10 at false ∷ behind-two)) (sym (le-leb next (place l) h))
         (literals-behind at (others .taken) (test 9 at false) (test 10 at false ∷ behind-two) refl
         (literals-behind at (others .taken) (test 10 at false) behind-two refl y))
 
@@ -288,17 +306,17 @@ literals-tell at r n next c (first ∷ rank ∷ rest) =
 
 constraint-tells : (file : List ℕ) (at : ℕ) (s : Set) → Tells (constraintAt file at (bodyLength (drop at file)) s) (bodyTests file at s)
 unfolding constraintAt bodyTests
-constraint-tells file at s = go (got .taken) (literals-tell at (s .r) (s .n) 0 _ body)
+constraint-tells file at s = go (got .taken) (literals-tell at (s .r) (s .n) 0 _ said (narrows-within (s .r) (s .n) (bodyAt file at)))
   where
-    body : List ℕ
-    body = bodyAt file at
+    said : List Said
+    said = narrows (bodyAt file at)
 
     got : Literals
-    got = literalsOf (s .r) (s .n) body
+    got = literalsOf (s .r) (s .n) (bodyAt file at)
 
-    go : (t : Taken) → TellsLiterals at t (withEleven at (s .r) (s .n) 0 body) → Tells (constraintDone at (bodyLength (drop at file)) s t (got .made)) (withEleven at (s .r) (s .n) 0 body)
+    go : (t : Taken) → TellsLiterals at t (withEleven at (s .r) (s .n) 0 said) → Tells (constraintDone at (bodyLength (drop at file)) s t (got .made)) (withEleven at (s .r) (s .n) 0 said)
     go (Failed c) x = x
-    go (Next next) x = x
+    go Passed x = x
 
 end-tells : (file : List ℕ) (at : ℕ) (s : Set) → Tells (endAt file at s) (endTests file at)
 unfolding endTests

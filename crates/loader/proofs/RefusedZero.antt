@@ -20,7 +20,7 @@ use Rattle.header.specs.declared.header.Header.the-variants.{Refused as Stopped
 use Rattle.loader.specs.declared.point.Point.{Point}
 use Rattle.loader.specs.declared.point.Point.the-variants.{Refused as Denied, Good}
 use Rattle.literal.specs.declared.literal.Taken.{Taken}
-use Rattle.literal.specs.declared.literal.Taken.the-variants.{Refused as Failed, Next}
+use Rattle.literal.specs.declared.literal.Taken.the-variants.{Refused as Failed, Good as Passed}
 use Rattle.loader.specs.declared.loader.Progress.{Progress}
 use Rattle.loader.specs.declared.loader.Progress.the-variants.{At, Refused}
 use Rattle.loader.specs.declared.loader.LoadAnswer.the-variants.{Loaded, Refused as WasRefused}
@@ -100,7 +100,7 @@ constraint-shows s at len set e = go (literalsOf (set .r) (set .n) (bodyOf (drop
 
     go : (t : Taken) → Shows (constraintDone at len set t c)
     go (Failed number) = refl
-    go (Next next) = e
+    go Passed = e
 
 given-shows : (s : List ℕ) (at : ℕ) (set : Set) (next : ℕ → Set → Loading) → 1 ≤ set .n → ((a : ℕ) (t : Set) → 1 ≤ t .n → Shows (next a t)) → (h : Header) → Shows (constraintsGiven s at set next h)
 given-shows s at set next e f (Stopped number) = refl

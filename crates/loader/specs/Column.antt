@@ -15,7 +15,8 @@ use Rattle.loader.specs.declared.loader.Progress.{Progress}
 use Rattle.loader.specs.declared.loader.Progress.the-variants.{At, Refused}
 use Rattle.header.specs.Test.{Test, test}
 use Rattle.header.specs.Header.{fitsTable, isDue, isCut, bodyLength, bodyOf}
-use Rattle.literal.specs.Literal.{isOutput, place, isLiteral}
+use Rattle.literal.specs.declared.literal.Said.{Said}
+use Rattle.literal.specs.Literal.{narrows, place, isLiteral}
 use Rattle.loader.specs.Load.{Loading, countsAt, readAt, readsFrom, outputAt, outputsFrom, constraintAt}
 
 -- ---- columns
@@ -71,23 +72,22 @@ readTests file at set i =
 unfoldable pub outputTests : List ℕ → ℕ → Set → ℕ → List Test
 outputTests file at set j = headerTests file at 0x03 0 ++ nameTests at set (set .r) j (bodyAt file at)
 
--- for each literal 9, then 10 where its place is below `next`, the one behind the literal before it; a body has an even length
-unfoldable pub literalTests : ℕ → ℕ → ℕ → ℕ → List ℕ → List Test
+-- for each literal 9, then 10 where its place is below `next`, the one behind the literal before it
+unfoldable pub literalTests : ℕ → ℕ → ℕ → ℕ → List Said → List Test
 literalTests at r n next [] = []
-literalTests at r n next (first ∷ []) = test 9 at true ∷ []
-literalTests at r n next (first ∷ rank ∷ rest) =
-    test 9 at (not (isLiteral first rank r n)) ∷ test 10 at (ltb (place first) next) ∷ literalTests at r n (place first + 1) rest
+literalTests at r n next (l ∷ rest) =
+    test 9 at (not (isLiteral l r n)) ∷ test 10 at (ltb (place l) next) ∷ literalTests at r n (place l + 1) rest
 
 -- one of the literals is an output's
-unfoldable pub namesOutput : List ℕ → Bool
+unfoldable pub namesOutput : List Said → Bool
 namesOutput [] = false
-namesOutput (first ∷ []) = false
-namesOutput (first ∷ rank ∷ rest) = isOutput first || namesOutput rest
+namesOutput (l ∷ rest) = l .out || namesOutput rest
 
 -- 0x04: its literals, then 11 no output literal
 unfoldable pub bodyTests : List ℕ → ℕ → Set → List Test
 bodyTests file at set =
-    literalTests at (set .r) (set .n) 0 (bodyAt file at) ++ (test 11 at (not (namesOutput (bodyAt file at))) ∷ [])
+    let said = narrows (bodyAt file at) in
+    literalTests at (set .r) (set .n) 0 said ++ (test 11 at (not (namesOutput said)) ∷ [])
 
 -- 0x05: 12 bytes follow, with the offset of the first
 unfoldable pub endTests : List ℕ → ℕ → List Test

@@ -21,7 +21,7 @@ use Rattle.scan.specs.Shape.{countTests, isSensor}
 use Rattle.header.specs.declared.header.Header.{Header}
 use Rattle.header.specs.declared.header.Header.the-variants.{Refused as Stopped, Field}
 use Rattle.literal.specs.declared.literal.Taken.{Taken}
-use Rattle.literal.specs.declared.literal.Taken.the-variants.{Refused as Failed, Next}
+use Rattle.literal.specs.declared.literal.Taken.the-variants.{Refused as Failed, Good as Passed}
 use Rattle.literal.specs.declared.literal.Literals.{Literals}
 use Rattle.loader.specs.declared.point.Point.{Point}
 use Rattle.loader.specs.declared.point.Point.the-variants.{Refused as Denied, Good}
@@ -187,7 +187,7 @@ withConstraint set c = withCounts (withConstraints set (store (set .constraints)
 -- the refusal, or the set with the constraint
 abbrev pub constraintDone : ℕ → ℕ → Set → Taken → Constraint → Loading
 constraintDone at len set (Failed number) c = refusal number at
-constraintDone at len set (Next next) c = goingOn (at + 3 + len) (withConstraint set c)
+constraintDone at len set Passed c = goingOn (at + 3 + len) (withConstraint set c)
 
 -- by what its literals give
 abbrev pub constraintGiven : ℕ → ℕ → Set → Literals → Loading

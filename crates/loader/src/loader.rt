@@ -245,7 +245,7 @@ fn constraints_at(s: &[u8], at: usize, r: usize, n: usize) -> Constraints
                             constraints,
                         };
                     }
-                    Taken::Next(_) => {
+                    Taken::Good => {
                         let made = f.made;
                         constraints[m] = made;
                         m = m + 1;

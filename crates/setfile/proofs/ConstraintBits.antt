@@ -12,7 +12,7 @@ use Rattle.words.proofs.BoolLaws.{by-test, and-true, or-true}
 use Rattle.words.proofs.BitLaws.{bit-and, bit-or, bit-zero}
 use Rattle.words.proofs.LoopLaws.{some-bit}
 use Rattle.scan.specs.declared.set.Constraint.{Constraint}
-use Rattle.scan.specs.Set.{rank, outs}
+use Rattle.scan.specs.Set.{mostOutputs, rankEnd, rank, outs}
 use Rattle.scan.specs.Shape.{rankOk}
 use Rattle.scan.proofs.ShapeLaws.{Masks, outs-lt}
 use Rattle.setfile.proofs.LiteralPlaces.{by-four, mask}
@@ -22,8 +22,8 @@ use Rattle.setfile.proofs.OneLiteral.{size}
 pub record Fine (r n : ℕ) (c : Constraint) : Type 0 where
   pub small : (o g : Bool) → mask o g c < 2 ^ size r n o
   pub apart : (o : Bool) (k : ℕ) → bit k (mask o false c) ≡ true → bit k (mask o true c) ≡ false
-  pub long : length (c .ranks) ≡ 12
-  pub unnamed : (k : ℕ) → k < 12 → bit k (mask true false c) ≡ false → bit k (mask true true c) ≡ false → rank c k ≡ 0
+  pub long : length (c .ranks) ≡ mostOutputs
+  pub unnamed : (k : ℕ) → k < mostOutputs → bit k (mask true false c) ≡ false → bit k (mask true true c) ≡ false → rank c k ≡ 0
   pub some : (g : Bool) × (k : ℕ) × (k < n) × (bit k (mask true g c) ≡ true)
 
 -- masks with no bit in common
@@ -40,7 +40,7 @@ fine r n c m = record {
   unnamed =
       λ k h p q.
       eqb-true (rank c k) 0
-      (or-true (bit k (outs c)) (eqb (rank c k) 0) (and-true (ltb (rank c k) 256) (bit k (outs c) || eqb (rank c k) 0) (m .ranks-ok k h) .1)
+      (or-true (bit k (outs c)) (eqb (rank c k) 0) (and-true (ltb (rank c k) rankEnd) (bit k (outs c) || eqb (rank c k) 0) (m .ranks-ok k h) .1)
       (bit-or k (c .«out_plain») (c .«out_negated») ∙ ap₂ _||_ p q));
   some =
       let b = some-bit n (outs c) (outs-lt r n c m) (m .has-out) in

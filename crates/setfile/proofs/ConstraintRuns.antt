@@ -16,22 +16,23 @@ use Rattle.scan.specs.declared.set.Constraint.{Constraint}
 use Rattle.scan.specs.declared.set.ReadPoint.{ReadPoint}
 use Rattle.scan.specs.declared.set.OutputPoint.{OutputPoint}
 use Rattle.scan.specs.declared.set.Set.{Set}
-use Rattle.scan.specs.Set.{zeroConstraint, withCounts, withConstraints, noConstraint}
+use Rattle.scan.specs.Set.{mostReads, mostOutputs, mostPoints, mostConstraints, zeroConstraint, withCounts, withConstraints, noConstraint}
 use Rattle.scan.specs.Shape.{constraintTests}
 use Rattle.scan.proofs.ShapeLaws.{Masks, constraint-masks}
 use Rattle.header.specs.declared.header.Header.{Header}
 use Rattle.header.specs.declared.header.Header.the-variants.{Refused as Stopped, Field}
 use Rattle.literal.specs.declared.literal.Literals.{Literals}
 use Rattle.literal.specs.declared.literal.Taken.{Taken}
-use Rattle.literal.specs.declared.literal.Taken.the-variants.{Refused as Failed, Next}
+use Rattle.literal.specs.declared.literal.Taken.the-variants.{Refused as Failed, Good as Passed}
 use Rattle.loader.specs.declared.loader.Progress.the-variants.{At}
 use Rattle.header.specs.Bytes.{Bytes}
 use Rattle.header.specs.Header.{headerOf, bodyOf, fitsTable}
-use Rattle.literal.specs.Literal.{literalsFrom, literalsOf}
+use Rattle.literal.specs.Literal.{narrows, goodLiterals, literalsFrom, literalsOf}
 use Rattle.loader.specs.Load.{refusal, goingOn, andThen, constraintDone, constraintGiven, constraintAt, endAt, constraintsGiven, constraintsFrom}
-use Rattle.writer.specs.Write.{fieldOf, readLiteral, outputLiteral, joined, literalBody}
+use Rattle.writer.specs.Write.{fieldOf, literalBody}
 use Rattle.setfile.proofs.LiteralPlaces.{mask}
-use Rattle.setfile.proofs.BodyPlaces.{worth, told, literal, joined-long}
+use Rattle.setfile.proofs.BodyPlaces.{upTo, worth, saidIf, saidOf, allSaid, by-kind, upto-long}
+use Rattle.setfile.proofs.LiteralBytes.{bytes-long, body-said}
 use Rattle.setfile.proofs.OneLiteral.{size}
 use Rattle.setfile.proofs.ConstraintBits.{Fine, fine}
 use Rattle.setfile.proofs.LiteralsBack.{literals-back}
@@ -43,42 +44,45 @@ use Rattle.setfile.proofs.FieldRuns.{Run, Moved}
 
 -- ---- how long a body is
 
-two-bytes : (o p q : Bool) (k x : ℕ) → (length (told o p q k x) ≤ 2) × (length (told o p q k x) % 2 ≡ 0)
-two-bytes o true q k x = (omega arith, refl)
-two-bytes o false true k x = (omega arith, refl)
-two-bytes o false false k x = (omega arith, refl)
+-- at most one literal each
+one-said : (o p q : Bool) (k x : ℕ) → length (saidIf o p q k x) ≤ 1
+one-said o true q k x = omega arith
+one-said o false true k x = omega arith
+one-said o false false k x = omega arith
 
-no-literals : (r n next : ℕ) → literalsOf r n [] .taken ≡ Next next → ⊥
-unfolding literalsFrom
-no-literals r n next e = let z : _≡_ {A = ℕ} 0 1 = cc in omega arith
+no-literals : (r n : ℕ) → literalsOf r n [] .taken ≡ Passed → ⊥
+unfolding literalsFrom narrows
+no-literals r n e = let z : _≡_ {A = ℕ} 0 1 = cc in omega arith
 
-not-empty : (r n : ℕ) (c : Constraint) (body : List ℕ) → (next : ℕ) × (literalsOf r n body ≡ record { taken = Next next; made = c }) → 1 ≤ length body
-not-empty r n c [] p = absurd (no-literals r n (p .0) (ap (λ (x : Literals). x .taken) (p .1)))
-not-empty r n c (x ∷ xs) p = omega arith
+not-empty : (r n : ℕ) (c : Constraint) (body : List ℕ) → literalsOf r n body ≡ goodLiterals c → 1 ≤ length body
+not-empty r n c [] e = absurd (no-literals r n (ap (λ (x : Literals). x .taken) e))
+not-empty r n c (x ∷ xs) e = omega arith
 
 -- A well-formed constraint's body has a length of the table.
-pub body-fits : (r n : ℕ) (c : Constraint) → r ≤ 16 → n ≤ 12 → r + n ≤ 24 → Masks r n c → fitsTable 4 (length (literalBody c)) ≡ true
-unfolding literalBody readLiteral outputLiteral
+pub body-fits : (r n : ℕ) (c : Constraint) → r ≤ mostReads → n ≤ mostOutputs → r + n ≤ mostPoints → Masks r n c → fitsTable 4 (length (literalBody c)) ≡ true
 body-fits r n c hr hn hs m =
-    let reads = joined 16 (literal c false) in
-    let outs = joined 12 (literal c true) in
-    let a = long false 16 in
-    let b = long true 12 in
+    let ls = allSaid c in
+    let reads = upTo mostReads (saidOf c false) in
+    let outs = upTo mostOutputs (saidOf c true) in
+    let a = few false mostReads in
+    let b = few true mostOutputs in
     let l = length-append reads outs in
-    let some : 1 ≤ length (reads ++ outs) = not-empty r n c (reads ++ outs) (literals-back r n c hr hn m) in
+    let k : length ls ≡ length (reads ++ outs) = ap length (by-kind c) in
+    let w : length (literalBody c) ≡ 2 * length ls = ap length (body-said c) ∙ bytes-long ls in
+    let some : 1 ≤ length (literalBody c) = not-empty r n c (literalBody c) (literals-back r n c hr hn m) in
     simp (
-      le-leb 2 (length (reads ++ outs)) (omega (arith, l, a, b, some)),
-      le-leb (length (reads ++ outs)) 48 (omega (arith, l, a, b)),
-      eq-eqb (length (reads ++ outs) % 2) 0 (omega (arith, l, a, b)),
+      le-leb 2 (length (literalBody c)) (omega (arith, w, some)),
+      le-leb (length (literalBody c)) 48 (omega (arith, w, k, l, a, b)),
+      eq-eqb (length (literalBody c) % 2) 0 (omega (arith, w)),
     )
   where
     f : Fine r n c
     f = fine r n c m
 
-    long : (o : Bool) (N : ℕ) → (length (joined N (literal c o)) ≤ 2 * N) × (length (joined N (literal c o)) ≤ 2 * size r n o) × (length (joined N (literal c o)) % 2 ≡ 0)
-    long o N =
-        joined-long (literal c o) (size r n o) N (λ k. two-bytes o (bit k (mask o false c)) (bit k (mask o true c)) k (worth o c k))
-        (λ k h. ap₂ (λ (p q : Bool). told o p q k (worth o c k)) (bit-above (size r n o) k (mask o false c) (f .small o false) h) (bit-above (size r n o) k (mask o true c) (f .small o true) h))
+    few : (o : Bool) (N : ℕ) → (length (upTo N (saidOf c o)) ≤ N) × (length (upTo N (saidOf c o)) ≤ size r n o)
+    few o N =
+        upto-long (saidOf c o) (size r n o) N (λ k. one-said o (bit k (mask o false c)) (bit k (mask o true c)) k (worth o c k))
+        (λ k h. ap₂ (λ (p q : Bool). saidIf o p q k (worth o c k)) (bit-above (size r n o) k (mask o false c) (f .small o false) h) (bit-above (size r n o) k (mask o true c) (f .small o true) h))
 
 -- ---- one field
 
@@ -91,7 +95,7 @@ abbrev pub constraintRun : List ℕ → ℕ → ℕ → List ReadPoint → List 
 constraintRun file r n reads outputs = record {
   tag = 4;
   body = literalBody;
-  places = 64;
+  places = mostConstraints;
   blank = zeroConstraint;
   past = noConstraint;
   base = constraintsBase r n reads outputs;
@@ -104,12 +108,12 @@ constraintRun file r n reads outputs = record {
 abbrev pub EndHere : List ℕ → (ℕ → List Constraint → Set) → ℕ → ℕ → ℕ → List Constraint → Type 0
 EndHere file base left k at l = (drop at file ≡ fieldOf 5 []) × (1 ≤ left) × (constraintsFrom file left at (base k l) ≡ goingOn (length file) (base k l))
 
-module _ (file : List ℕ) (r n : ℕ) (hr : r ≤ 16) (hn : n ≤ 12) (hs : r + n ≤ 24) (reads : List ReadPoint) (outputs : List OutputPoint) where
+module _ (file : List ℕ) (r n : ℕ) (hr : r ≤ mostReads) (hn : n ≤ mostOutputs) (hs : r + n ≤ mostPoints) (reads : List ReadPoint) (outputs : List OutputPoint) where
   abbrev base : ℕ → List Constraint → Set
   base = constraintsBase r n reads outputs
 
   -- A field whose body is that of a well-formed constraint is taken.
-  pub constraint-step : (left k at : ℕ) (l : List Constraint) (c : Constraint) (rest : List ℕ) → k < 64 → every (constraintTests r n c) ≡ true → drop at file ≡ fieldOf 4 (literalBody c) ++ rest
+  pub constraint-step : (left k at : ℕ) (l : List Constraint) (c : Constraint) (rest : List ℕ) → k < mostConstraints → every (constraintTests r n c) ≡ true → drop at file ≡ fieldOf 4 (literalBody c) ++ rest
       → constraintsFrom file (suc left) at (base k l) ≡ constraintsFrom file left (at + 3 + length (literalBody c)) (base (k + 1) (set l k c))
   unfolding constraintsFrom constraintAt
   constraint-step left k at l c rest h f e =
@@ -117,10 +121,10 @@ module _ (file : List ℕ) (r n : ℕ) (hr : r ≤ 16) (hn : n ≤ 12) (hs : r +
       let len = length body in
       let m = constraint-masks r n c f in
       let t = literals-back r n c hr hn m in
-      let hd : headerOf (drop at file) 4 k ≡ Field 4 len = ap (λ (s : List ℕ). headerOf s 4 k) e ∙ field-back 4 body rest 4 k refl (lt-leb 64 k h) (body-fits r n c hr hn hs m) in
+      let hd : headerOf (drop at file) 4 k ≡ Field 4 len = ap (λ (s : List ℕ). headerOf s 4 k) e ∙ field-back 4 body rest 4 k refl (lt-leb mostConstraints k h) (body-fits r n c hr hn hs m) in
       let bd : bodyOf (drop at file) len ≡ body = ap (λ (s : List ℕ). bodyOf s len) e ∙ body-back 4 body rest in
       ap (constraintsGiven file at (base k l) (constraintsFrom file left)) hd
-      ∙ ap (λ (x : Literals). andThen (constraintGiven at len (base k l) x) (constraintsFrom file left)) (ap (literalsOf r n) bd ∙ t .1)
+      ∙ ap (λ (x : Literals). andThen (constraintGiven at len (base k l) x) (constraintsFrom file left)) (ap (literalsOf r n) bd ∙ t)
 
   -- The end of the file is found.
   pub end-back : (left k at : ℕ) (l : List Constraint) → drop at file ≡ fieldOf 5 [] → constraintsFrom file (suc left) at (base k l) ≡ goingOn (length file) (base k l)
@@ -133,12 +137,12 @@ module _ (file : List ℕ) (r n : ℕ) (hr : r ≤ 16) (hn : n ≤ 12) (hs : r +
       ∙ rw (le-ltb (at + 3) (length file) (omega arith)) (ap (λ (x : ℕ). goingOn x (base k l)) n)
 
   -- A load does not run out of fields.
-  pub constraints-zero : (last k at : ℕ) (l : List Constraint) → k + 0 ≡ 65 → constraintsFrom file 0 at (base k l) .progress ≡ At last → EndHere file base 0 k at l
+  pub constraints-zero : (last k at : ℕ) (l : List Constraint) → k + 0 ≡ suc mostConstraints → constraintsFrom file 0 at (base k l) .progress ≡ At last → EndHere file base 0 k at l
   unfolding constraintsFrom
   constraints-zero last k at l t e = let z : _≡_ {A = ℕ} 0 1 = cc in absurd (omega arith)
 
   -- A field that was taken is the end, or the one written for a well-formed constraint.
-  pub constraint-moved : Bytes file → (last left k at : ℕ) (l : List Constraint) → k + suc left ≡ 65 → constraintsFrom file (suc left) at (base k l) .progress ≡ At last
+  pub constraint-moved : Bytes file → (last left k at : ℕ) (l : List Constraint) → k + suc left ≡ suc mostConstraints → constraintsFrom file (suc left) at (base k l) .progress ≡ At last
       → EndHere file base (suc left) k at l ⊎ Moved file (constraintRun file r n reads outputs) left k at l
   unfolding constraintsFrom constraintAt
   constraint-moved bytes last left k at l total e = by-header (headerOf (drop at file) 4 k) refl e
@@ -166,17 +170,17 @@ module _ (file : List ℕ) (r n : ℕ) (hr : r ≤ 16) (hn : n ≤ 12) (hs : r +
       by-taken : (tag len : ℕ) → headerOf (drop at file) 4 k ≡ Field tag len → eqb tag 5 ≡ false → (t : Taken) → literalsOf r n (bodyOf (drop at file) len) .taken ≡ t
           → andThen (constraintDone at len (base k l) t (literalsOf r n (bodyOf (drop at file) len) .made)) (constraintsFrom file left) .progress ≡ At last → Move
       by-taken tag len hd s (Failed number) t u = let z : _≡_ {A = ℕ} 0 1 = cc in absurd (omega arith)
-      by-taken tag len hd s (Next next) t u =
+      by-taken tag len hd s Passed t u =
           let f = found file at 4 k tag len bytes hd in
           let b = bodyOf (drop at file) len in
           let c = literalsOf r n b .made in
           let four : tag ≡ 4 = due-is 4 tag s (f .awaited) in
-          let g = literals-taken r n b next hr hn (f .bytes) t in
-          let few : (eqb 4 4 && leb 64 k) ≡ false = ap (λ (x : ℕ). eqb x 4 && leb 64 k) (sym four) ∙ f .few in
+          let g = literals-taken r n b hr hn (f .bytes) t in
+          let few : (eqb 4 4 && leb mostConstraints k) ≡ false = ap (λ (x : ℕ). eqb x 4 && leb mostConstraints k) (sym four) ∙ f .few in
           record {
             point = c;
             after = at + 3 + len;
-            inside = leb-false 64 k few;
+            inside = leb-false mostConstraints k few;
             fit = g .0;
             field = f .whole ∙ ap₂ (λ (x : ℕ) (y : List ℕ). fieldOf x y ++ drop (at + 3 + len) file) four (sym (g .1));
             on =

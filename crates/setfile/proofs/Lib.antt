@@ -1,5 +1,6 @@
 pub mod LiteralPlaces
 pub mod BodyPlaces
+pub mod LiteralBytes
 pub mod OneLiteral
 pub mod ConstraintBits
 pub mod LiteralsBack

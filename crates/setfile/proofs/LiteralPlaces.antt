@@ -1,21 +1,21 @@
--- Literals by what they say: an output or a read point, negated or plain, and the point's number. Read points stand at places 0 to 15, outputs from 16 on.
+-- Literals by what they say: an output or a read point, negated or plain, the point's number and the rank. Outputs stand at the places from mostReads on, read points below.
 -- Assumes nothing.
 use mathlib.Core.Path.{_≡_, refl, sym, _∙_, ap, ap₂}
 use mathlib.Core.Bool.{Bool, true, false, cond, not, _&&_, _||_}
-use Prim.Native.Nat.{ℕ, _+_, _/_, _%_, _^_, _<_}
-use native.Mathlib.Omega.{arith}
+use Prim.Native.Nat.{ℕ, _+_, _^_, _<_}
 use lib.Dec.{eqb}
 use lib.ListN.{length, set, length-set}
 use lib.Seq.{getD-set-same, getD-set-other}
 use lib.Bits.{or-lt}
-use lib.Pow.{pow-lt, shr-shr}
-use borrow.Author.Tests.{eqb-true, eqb-false, eq-eqb, ne-eqb}
+use lib.Pow.{pow-lt}
+use borrow.Author.Tests.{eqb-true, eq-eqb}
 use Rattle.words.specs.Word.{bit}
 use Rattle.words.proofs.BoolLaws.{by-test, and-true, or-right}
 use Rattle.words.proofs.BitLaws.{bit-or, bit-pow}
 use Rattle.scan.specs.declared.set.Constraint.{Constraint}
-use Rattle.scan.specs.Set.{rank}
-use Rattle.literal.specs.Literal.{isOutput, isNegated, spare, number, place, withBit, withLiteral}
+use Rattle.scan.specs.Set.{mostReads, mostOutputs, rank}
+use Rattle.literal.specs.declared.literal.Said.{Said}
+use Rattle.literal.specs.Literal.{withBit, withLiteral}
 
 -- a statement about two truth values
 pub by-four : (P : Bool → Bool → Type 0) → P true true → P true false → P false true → P false false → (a b : Bool) → P a b
@@ -24,59 +24,23 @@ by-four P tt′ tf ft ff true false = tf
 by-four P tt′ tf ft ff false true = ft
 by-four P tt′ tf ft ff false false = ff
 
--- ---- bytes
+-- ---- what literals say
 
--- the first byte of a literal
-abbrev pub byte : Bool → Bool → ℕ → ℕ
-byte true true k = 0xC0 + k
-byte true false k = 0x40 + k
-byte false true k = 0x80 + k
-byte false false k = k
+-- the literal of a point, an output or a read point, with its sign and rank
+abbrev pub said : Bool → Bool → ℕ → ℕ → Said
+said o g k x = record { clear = true; out = o; negated = g; number = k; rank = x }
 
 -- the place of a point
 abbrev pub placeOf : Bool → ℕ → ℕ
-placeOf true k = 16 + k
-placeOf false k = k
+placeOf o k = cond o (mostReads + k) k
 
--- what a first byte says
-pub record Says (first : ℕ) (o g : Bool) (k : ℕ) : Type 0 where
-  pub out : isOutput first ≡ o
-  pub neg : isNegated first ≡ g
-  pub rest : spare first ≡ 0
-  pub point : number first ≡ k
+-- the places of literals are below this
+abbrev pub placesEnd : ℕ
+placesEnd = mostReads + mostOutputs
 
--- A literal's first byte says what it was made of.
-pub byte-says : (k : ℕ) → k < 16 → (o g : Bool) → Says (byte o g k) o g k
-byte-says k h =
-    by-four (λ (o g : Bool). Says (byte o g k) o g k)
-    (record { out = eq-eqb ((0xC0 + k) / 2 ^ 6 % 2) 1 (omega arith); neg = eq-eqb ((0xC0 + k) / 2 ^ 7) 1 (omega arith); rest = omega arith; point = omega arith })
-    (record { out = eq-eqb ((0x40 + k) / 2 ^ 6 % 2) 1 (omega arith); neg = ne-eqb ((0x40 + k) / 2 ^ 7) 1 (omega arith); rest = omega arith; point = omega arith })
-    (record { out = ne-eqb ((0x80 + k) / 2 ^ 6 % 2) 1 (omega arith); neg = eq-eqb ((0x80 + k) / 2 ^ 7) 1 (omega arith); rest = omega arith; point = omega arith })
-    (record { out = ne-eqb (k / 2 ^ 6 % 2) 1 (omega arith); neg = ne-eqb (k / 2 ^ 7) 1 (omega arith); rest = omega arith; point = omega arith })
-
--- A byte with bits 5 and 4 zero is made of what it says.
-pub byte-is : (first : ℕ) → first < 256 → spare first ≡ 0 → first ≡ byte (isOutput first) (isNegated first) (number first)
-byte-is first h z = go (isOutput first) (isNegated first) refl refl
-  where
-    six : first / 16 / 4 ≡ first / 64
-    six = shr-shr first 4 2
-
-    seven : first / 64 / 2 ≡ first / 128
-    seven = shr-shr first 6 1
-
-    go : (o g : Bool) → isOutput first ≡ o → isNegated first ≡ g → first ≡ byte o g (number first)
-    go true true a b = let x = eqb-true (first / 2 ^ 6 % 2) 1 a in let y = eqb-true (first / 2 ^ 7) 1 b in omega (arith, six, seven)
-    go true false a b = let x = eqb-true (first / 2 ^ 6 % 2) 1 a in let y = eqb-false (first / 2 ^ 7) 1 b in omega (arith, six, seven)
-    go false true a b = let x = eqb-false (first / 2 ^ 6 % 2) 1 a in let y = eqb-true (first / 2 ^ 7) 1 b in omega (arith, six, seven)
-    go false false a b = let x = eqb-false (first / 2 ^ 6 % 2) 1 a in let y = eqb-false (first / 2 ^ 7) 1 b in omega (arith, six, seven)
-
--- The place that a first byte has.
-pub place-says : (first : ℕ) (o g : Bool) (k : ℕ) → Says first o g k → place first ≡ placeOf o k
-place-says first o g k s = ap₂ (λ (b : Bool) (j : ℕ). cond b (16 + j) j) (s .out) (s .point) ∙ go o
-  where
-    go : (o : Bool) → cond o (16 + k) k ≡ placeOf o k
-    go true = refl
-    go false = refl
+-- A literal whose bits are zero that have to be is the one of what it says.
+pub said-is : (l : Said) → l .clear ≡ true → l ≡ said (l .out) (l .negated) (l .number) (l .rank)
+said-is l e = λ i. record { clear = e i; out = l .out; negated = l .negated; number = l .number; rank = l .rank }
 
 -- ---- a constraint with a literal more
 
@@ -98,16 +62,10 @@ added false true k x c =
 added false false k x c =
     record { «read_plain» = withBit (c .«read_plain») k; «read_negated» = c .«read_negated»; «out_plain» = c .«out_plain»; «out_negated» = c .«out_negated»; ranks = c .ranks }
 
--- The loader adds what the byte says.
-pub with-added : (c : Constraint) (first x : ℕ) → withLiteral c first x ≡ added (isOutput first) (isNegated first) (number first) x c
+-- The loader adds what is said.
+pub with-added : (c : Constraint) (o g : Bool) (k x : ℕ) → withLiteral c (said o g k x) ≡ added o g k x c
 unfolding withLiteral
-with-added c first x = go (isOutput first) (isNegated first)
-  where
-    k : ℕ
-    k = number first
-
-    go : (o g : Bool) → cond o (cond g (added true true k x c) (added true false k x c)) (cond g (added false true k x c) (added false false k x c)) ≡ added o g k x c
-    go = by-four (λ (o g : Bool). cond o (cond g (added true true k x c) (added true false k x c)) (cond g (added false true k x c) (added false false k x c)) ≡ added o g k x c) refl refl refl refl
+with-added c o g k x = by-four (λ (o g : Bool). withLiteral c (said o g k x) ≡ added o g k x c) refl refl refl refl o g
 
 -- both or neither
 abbrev pub alike : Bool → Bool → Bool
@@ -139,7 +97,7 @@ or-none false = refl
 
 module _ (k x : ℕ) (c : Constraint) where
   -- the masks of the constraint with a literal more
-  pub mask-added : (o g p q : Bool) → mask p q (added o g k x c) ≡ cond (alike o p && alike g q) (withBit (mask p q c) k) (mask p q c)
+  mask-added : (o g p q : Bool) → mask p q (added o g k x c) ≡ cond (alike o p && alike g q) (withBit (mask p q c) k) (mask p q c)
   mask-added =
       by-four (λ (o g : Bool). (p q : Bool) → mask p q (added o g k x c) ≡ cond (alike o p && alike g q) (withBit (mask p q c) k) (mask p q c))
       (by-four (λ (p q : Bool). mask p q (added true true k x c) ≡ cond (p && q) (withBit (mask p q c) k) (mask p q c)) refl refl refl refl)
@@ -200,8 +158,8 @@ module _ (k x : ℕ) (c : Constraint) where
 
   -- Ranks at other places are as they were.
   pub rank-miss : (o g : Bool) (j : ℕ) → (placeOf true j ≡ placeOf o k → ⊥) → rank (added o g k x c) j ≡ rank c j
-  rank-miss true true j n = getD-set-other (c .ranks) k j x 0 (λ e. n (ap (λ (i : ℕ). 16 + i) e))
-  rank-miss true false j n = getD-set-other (c .ranks) k j x 0 (λ e. n (ap (λ (i : ℕ). 16 + i) e))
+  rank-miss true true j n = getD-set-other (c .ranks) k j x 0 (λ e. n (ap (λ (i : ℕ). mostReads + i) e))
+  rank-miss true false j n = getD-set-other (c .ranks) k j x 0 (λ e. n (ap (λ (i : ℕ). mostReads + i) e))
   rank-miss false true j n = refl
   rank-miss false false j n = refl
 

@@ -13,13 +13,15 @@ use Rattle.words.specs.Word.{bit}
 use Rattle.words.proofs.BoolLaws.{by-test, clash}
 use Rattle.words.proofs.BitLaws.{bit-below, same-bits}
 use Rattle.scan.specs.declared.set.Constraint.{Constraint}
-use Rattle.scan.specs.Set.{rank, zeroConstraint}
+use Rattle.scan.specs.Set.{mostReads, mostOutputs, rank, zeroConstraint}
 use Rattle.scan.proofs.ShapeLaws.{Masks}
-use Rattle.literal.specs.declared.literal.Taken.the-variants.{Next}
-use Rattle.literal.specs.Literal.{literalsFrom, literalsOf}
-use Rattle.writer.specs.Write.{joined, literalBody}
-use Rattle.setfile.proofs.LiteralPlaces.{byte, placeOf, mask, added, alike, alike-true, unlike, bit-hit, bit-sign, bit-miss, rank-hit, rank-miss}
-use Rattle.setfile.proofs.BodyPlaces.{worth, told, literal, placed, room, placed-at, by-place, body-placed}
+use Rattle.literal.specs.declared.literal.Said.{Said}
+use Rattle.literal.specs.Literal.{narrows, goodLiterals, literalsFrom, literalsOf}
+use Rattle.writer.specs.Write.{literalBody}
+use Rattle.literal.proofs.LiteralLaws.{room}
+use Rattle.setfile.proofs.LiteralPlaces.{said, placeOf, placesEnd, mask, added, alike, alike-true, unlike, bit-hit, bit-sign, bit-miss, rank-hit, rank-miss}
+use Rattle.setfile.proofs.BodyPlaces.{upTo, worth, saidIf, saidOf, placed, allSaid, placed-at, by-place}
+use Rattle.setfile.proofs.LiteralBytes.{narrows-back, body-said}
 use Rattle.setfile.proofs.ConstraintBits.{Fine, fine}
 use Rattle.setfile.proofs.OneLiteral.{size, Below, below-zero, below-added, literal-taken}
 
@@ -32,28 +34,24 @@ one-point true false k j h l e = absurd (omega arith)
 one-point false true k j h l e = absurd (omega arith)
 one-point false false k j h l e = (refl, sym e)
 
-size-room : (r n : ℕ) → r ≤ 16 → n ≤ 12 → (o : Bool) → size r n o ≤ room o
+size-room : (r n : ℕ) → r ≤ mostReads → n ≤ mostOutputs → (o : Bool) → size r n o ≤ room o
 size-room r n hr hn true = hn
 size-room r n hr hn false = hr
 
-room-16 : (o : Bool) (k : ℕ) → k < room o → k < 16
-room-16 true k h = omega arith
-room-16 false k h = h
-
--- the literals below place p have been read: what was made of them, and the next one's least place
+-- the literals below place p have been taken: what was made of them, and the next one's least place
 record Came (r n : ℕ) (c : Constraint) (p : ℕ) : Type 0 where
   next : ℕ
   made : Constraint
   rises : next ≤ p
   below : Below r n p made
   same : (o g : Bool) (k : ℕ) → k < room o → placeOf o k < p → bit k (mask o g made) ≡ bit k (mask o g c)
-  ranked : (k : ℕ) → k < 12 → 16 + k < p → rank made k ≡ rank c k
-  output : (g : Bool) (k : ℕ) → 16 + k < p → bit k (mask true g c) ≡ true → 16 < next
-  on : (t : List ℕ) → literalsOf r n (joined p (placed c) ++ t) ≡ literalsFrom r n next made t
+  ranked : (k : ℕ) → k < mostOutputs → mostReads + k < p → rank made k ≡ rank c k
+  output : (g : Bool) (k : ℕ) → mostReads + k < p → bit k (mask true g c) ≡ true → mostReads < next
+  on : (t : List Said) → literalsFrom r n 0 zeroConstraint (upTo p (placed c) ++ t) ≡ literalsFrom r n next made t
 
-module _ (r n : ℕ) (c : Constraint) (hr : r ≤ 16) (hn : n ≤ 12) (f : Fine r n c) where
+module _ (r n : ℕ) (c : Constraint) (hr : r ≤ mostReads) (hn : n ≤ mostOutputs) (f : Fine r n c) where
   came-first : Came r n c 0
-  unfolding joined
+  unfolding upTo
   came-first = record {
     next = 0;
     made = zeroConstraint;
@@ -67,8 +65,8 @@ module _ (r n : ℕ) (c : Constraint) (hr : r ≤ 16) (hn : n ≤ 12) (f : Fine 
 
   module _ (o : Bool) (k : ℕ) (w : k < room o) (a : Came r n c (placeOf o k)) where
     -- the literal of the point is there, with sign g
-    came-literal : (g : Bool) → bit k (mask o g c) ≡ true → bit k (mask o (not g) c) ≡ false → literal c o k ≡ byte o g k ∷ worth o c k ∷ [] → Came r n c (suc (placeOf o k))
-    unfolding joined
+    came-literal : (g : Bool) → bit k (mask o g c) ≡ true → bit k (mask o (not g) c) ≡ false → saidOf c o k ≡ said o g k (worth o c k) ∷ [] → Came r n c (suc (placeOf o k))
+    unfolding upTo
     came-literal g t u e =
         let p = placeOf o k in
         let x = worth o c k in
@@ -81,21 +79,21 @@ module _ (r n : ℕ) (c : Constraint) (hr : r ≤ 16) (hn : n ≤ 12) (f : Fine 
           rises = omega arith;
           below = subst (λ (i : ℕ). Below r n i (added o g k x d)) (add-one p) b;
           same = λ q v j l h. shown q v j l h (ℕ-discrete (placeOf q j) p);
-          ranked = λ j l h. kept j l h (ℕ-discrete (16 + j) p);
+          ranked = λ j l h. kept j l h (ℕ-discrete (mostReads + j) p);
           output = λ v j h z. past j h;
           on =
               λ y.
-              ap (literalsOf r n) (append-assoc (joined p (placed c)) (placed c p) y)
+              ap (literalsFrom r n 0 zeroConstraint) (append-assoc (upTo p (placed c)) (placed c p) y)
               ∙ a .on (placed c p ++ y)
-              ∙ ap (λ (z : List ℕ). literalsFrom r n (a .next) d (z ++ y)) (placed-at c o k w ∙ e)
-              ∙ literal-taken r n (a .next) d o g k x y (room-16 o k w) s (plain o) (a .rises);
+              ∙ ap (λ (z : List Said). literalsFrom r n (a .next) d (z ++ y)) (placed-at c o k w ∙ e)
+              ∙ literal-taken r n (a .next) d o g k x y s (plain o) (a .rises);
         }
       where
         plain : (q : Bool) → q ≡ false → worth q c k ≡ 0
         plain true z = let y : _≡_ {A = ℕ} 0 1 = cc in absurd (omega arith)
         plain false z = refl
 
-        past : (j : ℕ) → 16 + j < suc (placeOf o k) → 16 < placeOf o k + 1
+        past : (j : ℕ) → mostReads + j < suc (placeOf o k) → mostReads < placeOf o k + 1
         past j h = omega arith
 
         own : (v : Bool) → bit k (mask o v (added o g k (worth o c k) (a .made))) ≡ bit k (mask o v c)
@@ -114,19 +112,19 @@ module _ (r n : ℕ) (c : Constraint) (hr : r ≤ 16) (hn : n ≤ 12) (f : Fine 
             (subst (λ (y : ℕ). bit y (mask o v (added o g k (worth o c k) (a .made))) ≡ bit y (mask o v c)) (i .1) (own v))
         shown q v j l h (no z) = bit-miss k (worth o c k) (a .made) o g q v j z ∙ a .same q v j l (omega arith)
 
-        hit : (q : Bool) → q ≡ true → k < 12 → rank (added q g k (worth q c k) (a .made)) k ≡ rank c k
+        hit : (q : Bool) → q ≡ true → k < mostOutputs → rank (added q g k (worth q c k) (a .made)) k ≡ rank c k
         hit true z l = let y = a .below .long in rank-hit k (rank c k) (a .made) g (omega arith)
         hit false z l = let y : _≡_ {A = ℕ} 0 1 = cc in absurd (omega arith)
 
-        kept : (j : ℕ) → j < 12 → 16 + j < suc (placeOf o k) → Dec (16 + j ≡ placeOf o k) → rank (added o g k (worth o c k) (a .made)) j ≡ rank c j
+        kept : (j : ℕ) → j < mostOutputs → mostReads + j < suc (placeOf o k) → Dec (mostReads + j ≡ placeOf o k) → rank (added o g k (worth o c k) (a .made)) j ≡ rank c j
         kept j l h (yes z) =
             let i = one-point o true k j w l z in
-            subst (λ (y : ℕ). rank (added o g k (worth o c k) (a .made)) y ≡ rank c y) (i .1) (hit o (i .0) (subst (λ (y : ℕ). y < 12) (sym (i .1)) l))
+            subst (λ (y : ℕ). rank (added o g k (worth o c k) (a .made)) y ≡ rank c y) (i .1) (hit o (i .0) (subst (λ (y : ℕ). y < mostOutputs) (sym (i .1)) l))
         kept j l h (no z) = rank-miss k (worth o c k) (a .made) o g j z ∙ a .ranked j l (omega arith)
 
     -- it is not there
     came-none : bit k (mask o false c) ≡ false → bit k (mask o true c) ≡ false → Came r n c (suc (placeOf o k))
-    unfolding joined
+    unfolding upTo
     came-none t u =
         let p = placeOf o k in
         let b = a .below in
@@ -136,13 +134,13 @@ module _ (r n : ℕ) (c : Constraint) (hr : r ≤ 16) (hn : n ≤ 12) (f : Fine 
           rises = let y = a .rises in omega arith;
           below = record { none = λ q v j h. b .none q v j (omega arith); small = b .small; long = b .long; unranked = λ j h l. b .unranked j (omega arith) l };
           same = λ q v j l h. shown q v j l h (ℕ-discrete (placeOf q j) p);
-          ranked = λ j l h. kept j l h (ℕ-discrete (16 + j) p);
-          output = λ v j h z. told-out v j h z (ℕ-discrete (16 + j) p);
+          ranked = λ j l h. kept j l h (ℕ-discrete (mostReads + j) p);
+          output = λ v j h z. told-out v j h z (ℕ-discrete (mostReads + j) p);
           on =
               λ y.
-              ap (literalsOf r n) (append-assoc (joined p (placed c)) (placed c p) y)
+              ap (literalsFrom r n 0 zeroConstraint) (append-assoc (upTo p (placed c)) (placed c p) y)
               ∙ a .on (placed c p ++ y)
-              ∙ ap (λ (z : List ℕ). literalsFrom r n (a .next) (a .made) (z ++ y)) (placed-at c o k w ∙ ap₂ (λ (i j : Bool). told o i j k (worth o c k)) t u);
+              ∙ ap (λ (z : List Said). literalsFrom r n (a .next) (a .made) (z ++ y)) (placed-at c o k w ∙ ap₂ (λ (i j : Bool). saidIf o i j k (worth o c k)) t u);
         }
       where
         off : (v : Bool) → bit k (mask o v c) ≡ false
@@ -158,13 +156,13 @@ module _ (r n : ℕ) (c : Constraint) (hr : r ≤ 16) (hn : n ≤ 12) (f : Fine 
         bare : (v : Bool) (j : ℕ) → (o ≡ true) × (k ≡ j) → bit j (mask true v c) ≡ false
         bare v j i = ap₂ (λ (x : Bool) (y : ℕ). bit y (mask x v c)) (sym (i .0)) (sym (i .1)) ∙ off v
 
-        kept : (j : ℕ) → j < 12 → 16 + j < suc (placeOf o k) → Dec (16 + j ≡ placeOf o k) → rank (a .made) j ≡ rank c j
+        kept : (j : ℕ) → j < mostOutputs → mostReads + j < suc (placeOf o k) → Dec (mostReads + j ≡ placeOf o k) → rank (a .made) j ≡ rank c j
         kept j l h (yes z) =
             let i = one-point o true k j w l z in
             a .below .unranked j (omega arith) l ∙ sym (f .unnamed j l (bare false j i) (bare true j i))
         kept j l h (no z) = a .ranked j l (omega arith)
 
-        told-out : (v : Bool) (j : ℕ) → 16 + j < suc (placeOf o k) → bit j (mask true v c) ≡ true → Dec (16 + j ≡ placeOf o k) → 16 < a .next
+        told-out : (v : Bool) (j : ℕ) → mostReads + j < suc (placeOf o k) → bit j (mask true v c) ≡ true → Dec (mostReads + j ≡ placeOf o k) → mostReads < a .next
         told-out v j h z (yes y) =
             let l = bit-below n j (mask true v c) (f .small true v) z in
             clash z (bare v j (one-point o true k j w (omega arith) y))
@@ -173,17 +171,17 @@ module _ (r n : ℕ) (c : Constraint) (hr : r ≤ 16) (hn : n ≤ 12) (f : Fine 
     came-more : Came r n c (suc (placeOf o k))
     came-more =
         by-test (bit k (mask o false c))
-        (λ t. came-literal false t (f .apart o k t) (ap (λ (i : Bool). told o i (bit k (mask o true c)) k (worth o c k)) t))
+        (λ t. came-literal false t (f .apart o k t) (ap (λ (i : Bool). saidIf o i (bit k (mask o true c)) k (worth o c k)) t))
         (λ t. by-test (bit k (mask o true c))
-        (λ u. came-literal true u t (ap₂ (λ (i j : Bool). told o i j k (worth o c k)) t u))
+        (λ u. came-literal true u t (ap₂ (λ (i j : Bool). saidIf o i j k (worth o c k)) t u))
         (λ u. came-none t u))
 
-  came : (p : ℕ) → p ≤ 28 → Came r n c p
+  came : (p : ℕ) → p ≤ placesEnd → Came r n c p
   came zero h = came-first
   came (suc p) h = by-place (λ (i : ℕ). Came r n c i → Came r n c (suc i)) (λ o k w a. came-more o k w a) p h (came p (omega arith))
 
   -- after the last place the constraint itself has been made
-  made-all : (a : Came r n c 28) → a .made ≡ c
+  made-all : (a : Came r n c placesEnd) → a .made ≡ c
   made-all a =
       let p = whole true false in
       let q = whole true true in
@@ -194,7 +192,7 @@ module _ (r n : ℕ) (c : Constraint) (hr : r ≤ 16) (hn : n ≤ 12) (f : Fine 
       let k = ext-getD 0 (a .made .ranks) (c .ranks) (omega arith) (λ i h. a .ranked i (omega arith) (omega arith)) in
       λ i. record { «read_plain» = u i; «read_negated» = v i; «out_plain» = p i; «out_negated» = q i; ranks = k i }
     where
-      last : (o : Bool) (k : ℕ) → k < room o → placeOf o k < 28
+      last : (o : Bool) (k : ℕ) → k < room o → placeOf o k < placesEnd
       last true k h = omega arith
       last false k h = omega arith
 
@@ -203,21 +201,19 @@ module _ (r n : ℕ) (c : Constraint) (hr : r ≤ 16) (hn : n ≤ 12) (f : Fine 
           let s = size-room r n hr hn o in
           same-bits (size r n o) (mask o g (a .made)) (mask o g c) (a .below .small o g) (f .small o g) (λ k h. a .same o g k (omega arith) (last o k (omega arith)))
 
-  ended : (next : ℕ) → 16 < next → literalsFrom r n next c [] ≡ record { taken = Next next; made = c }
+  ended : (next : ℕ) → mostReads < next → literalsFrom r n next c [] ≡ goodLiterals c
   unfolding literalsFrom
-  ended next h = rw (lt-leb next 16 h)
+  ended next h = rw (lt-leb next mostReads h)
 
-  back : (next : ℕ) × (literalsOf r n (literalBody c) ≡ record { taken = Next next; made = c })
+  back : literalsFrom r n 0 zeroConstraint (allSaid c) ≡ goodLiterals c
   back =
-      let a = came 28 (omega arith) in
+      let a = came placesEnd (omega arith) in
       let s = f .some in
       let l = s .2 in
-      let past = a .output (s .0) (s .1) (omega arith) (s .3) in (
-        a .next,
-        ap (literalsOf r n) (sym (append-nil (joined 28 (placed c)) ∙ body-placed c)) ∙ a .on []
-            ∙ ap (λ (d : Constraint). literalsFrom r n (a .next) d []) (made-all a) ∙ ended (a .next) past,
-      )
+      let past = a .output (s .0) (s .1) (omega arith) (s .3) in
+      ap (literalsFrom r n 0 zeroConstraint) (sym (append-nil (allSaid c))) ∙ a .on []
+      ∙ ap (λ (d : Constraint). literalsFrom r n (a .next) d []) (made-all a) ∙ ended (a .next) past
 
 -- The literals of a well-formed constraint are read back.
-pub literals-back : (r n : ℕ) (c : Constraint) → r ≤ 16 → n ≤ 12 → Masks r n c → (next : ℕ) × (literalsOf r n (literalBody c) ≡ record { taken = Next next; made = c })
-literals-back r n c hr hn m = back r n c hr hn (fine r n c m)
+pub literals-back : (r n : ℕ) (c : Constraint) → r ≤ mostReads → n ≤ mostOutputs → Masks r n c → literalsOf r n (literalBody c) ≡ goodLiterals c
+literals-back r n c hr hn m = ap (literalsFrom r n 0 zeroConstraint) (ap narrows (body-said c) ∙ narrows-back c) ∙ back r n c hr hn (fine r n c m)

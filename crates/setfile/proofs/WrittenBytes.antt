@@ -24,8 +24,9 @@ use Rattle.scan.proofs.ShapeLaws.{Masks, rank-lt, counts, masks, points-formed}
 use Rattle.scan.proofs.NamesLaws.{name-formed, bytes-named}
 use Rattle.header.specs.Bytes.{Bytes}
 use Rattle.writer.specs.Write.{fieldOf, kindBytes, readBody, outputBody, readLiteral, outputLiteral, joined, literalBody, fieldsOf, writeOf}
-use Rattle.setfile.proofs.LiteralPlaces.{byte, mask, by-four}
-use Rattle.setfile.proofs.BodyPlaces.{worth, told, literal}
+use Rattle.setfile.proofs.LiteralPlaces.{mask, by-four}
+use Rattle.setfile.proofs.BodyPlaces.{worth}
+use Rattle.setfile.proofs.LiteralBytes.{byte, told, literal}
 use Rattle.header.proofs.HeaderLaws.{table-bounds}
 use Rattle.setfile.proofs.PointsFit.{read-fits, output-fits}
 use Rattle.setfile.proofs.PointKinds.{reads-give, outputs-give}

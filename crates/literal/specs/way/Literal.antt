@@ -1,31 +1,41 @@
--- The code's way with literals: the masks of those taken so far, apart from their ranks.
+-- The code's way with literals: what is said at a place of a body, and the literals taken so far as the bits of one word, apart from their ranks.
 -- Assumes nothing.
-use Prim.Native.Nat.{ℕ, _^_}
-use mathlib.Core.Bool.{Bool, cond, not, _&&_}
+use Prim.Native.Nat.{ℕ, _+_, _%_, _/_, _^_}
+use mathlib.Core.Bool.{Bool, cond}
 use mathlib.Core.List.{List}
-use lib.Bits.{bitOr}
+use lib.Dec.{ltb}
+use lib.ListN.{length, getD}
 use Rattle.scan.specs.declared.set.Constraint.{Constraint}
-use Rattle.literal.specs.declared.literal.Masks.{Masks}
+use Rattle.scan.specs.Set.{mostReads, mostOutputs}
+use Rattle.literal.specs.declared.literal.Said.{Said}
+use Rattle.literal.specs.Literal.{narrow, torn, withBit}
 
--- no literal yet
-abbrev pub noMasks : Masks
-noMasks = record { «read_plain» = 0; «read_negated» = 0; «out_plain» = 0; «out_negated» = 0 }
+-- the literal at place i of a body
+abbrev pub saidAt : List ℕ → ℕ → Said
+saidAt body i = cond (ltb (i + 1) (length body)) (narrow (getD body i 0) (getD body (i + 1) 0)) torn
 
--- a literal of point k more: its bit in the one mask that its kind names
-abbrev pub inMasks : Masks → Bool → Bool → ℕ → Masks
-inMasks m out negated k = record {
-  «read_plain» = bitOr (m .«read_plain») (cond (not out && not negated) (2 ^ k) 0);
-  «read_negated» = bitOr (m .«read_negated») (cond (not out && negated) (2 ^ k) 0);
-  «out_plain» = bitOr (m .«out_plain») (cond (out && not negated) (2 ^ k) 0);
-  «out_negated» = bitOr (m .«out_negated») (cond (out && negated) (2 ^ k) 0);
-}
+-- the bits of a word for the literals of one sign: no fewer than the places of literals
+abbrev pub signBits : ℕ
+signBits = 32
 
--- the constraint of masks and ranks
-abbrev pub ofMasks : Masks → List ℕ → Constraint
-ofMasks m ranks = record {
-  «read_plain» = m .«read_plain»;
-  «read_negated» = m .«read_negated»;
-  «out_plain» = m .«out_plain»;
-  «out_negated» = m .«out_negated»;
+-- the bit of a literal of this sign and place: the plain ones by place, then the negated ones by place
+abbrev pub bitAt : Bool → ℕ → ℕ
+bitAt negated at = cond negated (signBits + at) at
+
+-- the word with a literal more
+abbrev pub inWord : ℕ → Bool → ℕ → ℕ
+inWord w negated at = withBit w (bitAt negated at)
+
+-- `long` bits of a word from bit `from` on
+abbrev pub part : ℕ → ℕ → ℕ → ℕ
+part from long w = w / 2 ^ from % 2 ^ long
+
+-- the constraint of a word and ranks
+abbrev pub ofWord : ℕ → List ℕ → Constraint
+ofWord w ranks = record {
+  «read_plain» = part 0 mostReads w;
+  «read_negated» = part signBits mostReads w;
+  «out_plain» = part mostReads mostOutputs w;
+  «out_negated» = part (signBits + mostReads) mostOutputs w;
   ranks = ranks;
 }

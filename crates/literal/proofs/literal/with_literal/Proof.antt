@@ -1,74 +1,30 @@
--- `literal::literal::with_literal` meets its contract: each mask has the literal's bit if the literal is of its kind. Assumes nothing.
-use mathlib.Core.Path.{ap, ap₂, _∙_}
-use mathlib.Core.Bool.{cond, not, _&&_}
-use Prim.Native.Nat.{_^_}
+-- `literal::literal::with_literal` meets its contract: the bit that is set is within the word. Assumes nothing.
+use mathlib.Core.Path.{_≡_, sym, ap, subst, _∙_}
+use mathlib.Core.Logic.{⊎-elim}
+use Prim.Native.Nat.{_^_, _<_}
 use lib.Bits.{bitOr}
-use Rattle.literal.specs.Literal.{number}
 use borrow.Author.Needs.{needs}
+use Rattle.words.proofs.BoolLaws.{cond-true, cond-false}
+use Rattle.words.proofs.ShiftLaws.{one-shl}
+use Rattle.literal.specs.way.Literal.{bitAt}
+use Rattle.literal.proofs.LiteralWayLaws.{bit-below}
 use Rattle.literal.proofs.literal.with_literal.Statement.{statement}
 use Rattle.literal.proofs.literal.with_literal.Tie as tie
 
-is-output-requires : tie.Need-is-output-requires
-is-output-requires c κs = search needs
+add-bit : tie.Need-add-bit
+add-bit c = search needs
 
-is-negated-requires : tie.Need-is-negated-requires
-is-negated-requires c κs = search needs
+-- the bit is that of the definition
+bit-is : (c : tie.After-row-known) → c .before .if1 .bit ≡ bitAt (c .before .before .args .negated) (c .before .before .args .at)
+bit-is c =
+    ⊎-elim (λ w. w .1 ∙ cond-true (c .before .before .args .negated) _ _ (w .0 .taken)) (λ w. w .1 ∙ cond-false (c .before .before .args .negated) _ _ (w .0 .left))
+    (c .before .if1 .came)
 
-both-requires : tie.Need-both-requires
-both-requires c κs = search needs
-
-read-bit-requires : tie.Need-read-bit-requires
-read-bit-requires c κs = search needs
-
-both-requires-2 : tie.Need-both-requires-2
-both-requires-2 c κs = search needs
-
-read-bit-requires-2 : tie.Need-read-bit-requires-2
-read-bit-requires-2 c κs = search needs
-
-both-requires-3 : tie.Need-both-requires-3
-both-requires-3 c κs = search needs
-
-output-bit-requires : tie.Need-output-bit-requires
-output-bit-requires c κs = search needs
-
-both-requires-4 : tie.Need-both-requires-4
-both-requires-4 c κs = search needs
-
-output-bit-requires-2 : tie.Need-output-bit-requires-2
-output-bit-requires-2 c κs = search needs
+shl-result : tie.Need-shl-result
+shl-result c = subst (λ x. x < 64) (sym (bit-is c)) (bit-below (c .before .before .args .negated) (c .before .before .args .at) (c .before .before .pre))
 
 returns : tie.Need-returns
-returns c =
-    let d = c .before .before .before .before .before .before .before .before .before .before .before .before in
-    let a = d .before .before .args in
-    let k = number (a .first) in
-    let o = d .before .is-output .ensures in
-    let g = d .is-negated .ensures in
-    let rp = c .before .before .before .before .before .before .before .before .before .before .read-bit .ensures ∙ ap (λ t. cond t (2 ^ k) 0) (c .before .before .before .before .before .before .before .before .before .before .before .both .ensures ∙ ap₂ (λ x y. not x && not y) o g) in
-    let rn = c .before .before .before .before .before .before .before .read-bit2 .ensures ∙ ap (λ t. cond t (2 ^ k) 0) (c .before .before .before .before .before .before .before .before .both2 .ensures ∙ ap₂ (λ x y. not x && y) o g) in
-    let op = c .before .before .before .before .output-bit .ensures ∙ ap (λ t. cond t (2 ^ k) 0) (c .before .before .before .before .before .both3 .ensures ∙ ap₂ (λ x y. x && not y) o g) in
-    let on = c .before .output-bit2 .ensures ∙ ap (λ t. cond t (2 ^ k) 0) (c .before .before .both4 .ensures ∙ ap₂ (λ x y. x && y) o g) in
-    let m = a .m in
-    λ i. record {
-      «read_plain» = bitOr (m .«read_plain») (rp i);
-      «read_negated» = bitOr (m .«read_negated») (rn i);
-      «out_plain» = bitOr (m .«out_plain») (op i);
-      «out_negated» = bitOr (m .«out_negated») (on i);
-    }
+returns c = ap (bitOr (c .before .before .args .word)) (one-shl 64 (c .before .if1 .bit) (shl-result c) ∙ ap (λ x. 2 ^ x) (bit-is c))
 
 pub with-literal-spec : {M : Type 1} → statement M
-with-literal-spec =
-    tie.close
-    (tie.spec
-    is-output-requires
-    is-negated-requires
-    both-requires
-    read-bit-requires
-    both-requires-2
-    read-bit-requires-2
-    both-requires-3
-    output-bit-requires
-    both-requires-4
-    output-bit-requires-2
-    returns)
+with-literal-spec = tie.close (tie.spec add-bit shl-result returns)
