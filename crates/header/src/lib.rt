@@ -23,5 +23,6 @@ pub use numbers::TAG_END;
 pub use numbers::TAG_NOT_DUE;
 pub use numbers::TAG_OUTPUT;
 pub use numbers::TAG_READ;
+pub use numbers::Taken;
 pub use reader::FrontField;
 pub use reader::front_at;

@@ -2,5 +2,4 @@
 mod literal; // literals taken into masks and ranks
 
 pub use literal::Literals;
-pub use literal::Taken;
 pub use literal::literals_of;

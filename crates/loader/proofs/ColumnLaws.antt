@@ -21,12 +21,10 @@ use Rattle.scan.specs.Shape.{countTests, isSensor}
 use Rattle.shape.proofs.SpellingLaws.{spell-name, spell-strange}
 use Rattle.header.specs.declared.header.Header.the-variants.{Refused as Stopped, Field}
 use Rattle.loader.specs.declared.point.KindRead.the-variants.{Bad, Known}
-use Rattle.loader.specs.declared.point.Point.{Point}
-use Rattle.loader.specs.declared.point.Point.the-variants.{Refused as Denied, Good}
+use Rattle.header.specs.declared.numbers.Taken.{Taken}
+use Rattle.header.specs.declared.numbers.Taken.the-variants.{Refused as Denied, Good}
 use Rattle.loader.specs.declared.point.NameField.{NameField}
 use Rattle.loader.specs.declared.point.ReadField.{ReadField}
-use Rattle.literal.specs.declared.literal.Taken.{Taken}
-use Rattle.literal.specs.declared.literal.Taken.the-variants.{Refused as Failed, Good as Passed}
 use Rattle.literal.specs.declared.literal.Literals.{Literals}
 use Rattle.loader.specs.declared.loader.Progress.{Progress}
 use Rattle.loader.specs.declared.loader.Progress.the-variants.{At, Refused}
@@ -34,9 +32,9 @@ use Rattle.header.specs.Test.{Test, test, FirstFails, NoneFails}
 use Rattle.header.specs.Header.{headerOf, bodyOf, bodyLength, isCut, isDue, fitsTable}
 use Rattle.literal.specs.declared.literal.Said.{Said}
 use Rattle.literal.specs.Literal.{narrows, place, isLiteral, withLiteral, refusedLiterals, goodLiterals, literalThen, literalsFrom, literalsOf}
-use Rattle.loader.specs.Load.{Loading, refusal, goingOn, thenFrom, andThen, taken, fieldBy, fieldAt, goodIf, countsTold, countsMade, countsAt}
+use Rattle.loader.specs.Load.{Loading, refusal, goingOn, thenFrom, andThen, fieldDone, fieldBy, fieldAt, goodIf, countsTold, countsMade, countsAt}
 use Rattle.loader.specs.Load.{nameField, kindOf, readField, sensorAt, readOf, withRead, readAt, readsFrom, outputOf, withOutput, outputAt, outputsFrom}
-use Rattle.loader.specs.Load.{constraintDone, constraintAt, endAt, constraintsGiven, constraintsFrom, afterCounts, afterReads, answerOf, loadFrom, loadOf}
+use Rattle.loader.specs.Load.{withConstraint, constraintAt, endAt, constraintsGiven, constraintsFrom, afterCounts, afterReads, answerOf, loadFrom, loadOf}
 use Rattle.loader.specs.Column.{behindPlace, behind, headerTests, bodyAt, countsTests, kindFits, nameTests, readTests, outputTests, literalTests, namesOutput}
 use Rattle.loader.specs.Column.{bodyTests, endTests, readsTests, outputsTests, tagTests, constraintsTests, readsOn, outputsOn, loadTests}
 use Rattle.loader.specs.Told.{loadTold}
@@ -104,16 +102,16 @@ by-header file at due m stop go =
 -- ---- a field
 
 -- what a body tells agrees with its tests
-abbrev BodyTells : ℕ → Point → List Test → Type 0
+abbrev BodyTells : ℕ → Taken → List Test → Type 0
 BodyTells at (Denied c) column = FirstFails column c at
 BodyTells at Good column = NoneFails column
 
-body-behind : (at : ℕ) (t : Point) (x : Test) (column : List Test) → x .fails ≡ false → BodyTells at t column → BodyTells at t (x ∷ column)
+body-behind : (at : ℕ) (t : Taken) (x : Test) (column : List Test) → x .fails ≡ false → BodyTells at t column → BodyTells at t (x ∷ column)
 body-behind at (Denied c) x column n y = inr (n, y)
 body-behind at Good x column n y = (n, y)
 
 -- a field tells what its header's tests tell, and then what its body tells
-field-tells : (file : List ℕ) (at due : ℕ) (told : List ℕ → Point) (made : List ℕ → Set) (rest : List Test)
+field-tells : (file : List ℕ) (at due : ℕ) (told : List ℕ → Taken) (made : List ℕ → Set) (rest : List Test)
     → (headerOf (drop at file) due 0 ≡ Field (getD (drop at file) 0 0) (bodyLength (drop at file)) → BodyTells at (told (bodyAt file at)) rest)
     → Tells (fieldAt file at due told made) (headerTests file at due 0 ++ rest)
 field-tells file at due told made rest f =
@@ -122,9 +120,9 @@ field-tells file at due told made rest f =
     let body = bodyAt file at in
     by-header file at due 0
     (λ c h x. tells-front (fieldAt file at due told made) head rest c at (ap (fieldBy file at told made) h) x)
-    (λ h x. tells-behind (fieldAt file at due told made) (taken at len (told body) (made body)) head rest (ap (fieldBy file at told made) h) x (go len (told body) (made body) (f h)))
+    (λ h x. tells-behind (fieldAt file at due told made) (fieldDone at len (told body) (made body)) head rest (ap (fieldBy file at told made) h) x (go len (told body) (made body) (f h)))
   where
-    go : (len : ℕ) (t : Point) (s : Set) → BodyTells at t rest → Tells (taken at len t s) rest
+    go : (len : ℕ) (t : Taken) (s : Set) → BodyTells at t rest → Tells (fieldDone at len t s) rest
     go len (Denied c) s x = x
     go len Good s x = x
 
@@ -148,12 +146,12 @@ counts-tell file =
 
 -- a name of 1 to 8 bytes
 name-tells : (at : ℕ) (s : Set) (i j : ℕ) (bytes : List ℕ) → 1 ≤ length bytes → length bytes ≤ namePlaces
-    → BodyTells at (nameField (isUsed (s .reads) i (s .outputs) j) bytes .told) (nameTests at s i j bytes)
+    → BodyTells at (nameField (isUsed (s .reads) i (s .outputs) j) bytes .taken) (nameTests at s i j bytes)
 unfolding nameTests
 name-tells at s i j bytes low high =
     let used = isUsed (s .reads) i (s .outputs) j in
-    let told : (f : NameField) → nameField used bytes ≡ f → BodyTells at (f .told) (nameTests at s i j bytes) → BodyTells at (nameField used bytes .told) (nameTests at s i j bytes) =
-    λ f e x. subst (λ (g : NameField). BodyTells at (g .told) (nameTests at s i j bytes)) (sym e) x in
+    let told : (f : NameField) → nameField used bytes ≡ f → BodyTells at (f .taken) (nameTests at s i j bytes) → BodyTells at (nameField used bytes .taken) (nameTests at s i j bytes) =
+    λ f e x. subst (λ (g : NameField). BodyTells at (g .taken) (nameTests at s i j bytes)) (sym e) x in
     by-test (not (allNameBytes bytes))
     (λ f7. told _ (name-bad used bytes _ (spell-strange bytes (not-true (allNameBytes bytes) f7)) refl) (inl (f7, refl, refl)))
     (λ n7.
@@ -199,9 +197,9 @@ read-tells file at s i =
     let six = test 6 at (not (kindFits s i kind index)) in
     let used = isUsed (s .reads) i (s .outputs) 0 in
     let got = readField (s .n) (sensorAt (s .reads)) used i in
-    let told : (f : ReadField) → got body ≡ f → BodyTells at (f .told) (six ∷ names) → BodyTells at (got body .told) (six ∷ names) =
-    λ f e x. subst (λ (g : ReadField). BodyTells at (g .told) (six ∷ names)) (sym e) x in
-    field-tells file at 0x02 (λ b. got b .told) (λ b. withRead s i (got b .read)) (six ∷ names)
+    let told : (f : ReadField) → got body ≡ f → BodyTells at (f .taken) (six ∷ names) → BodyTells at (got body .taken) (six ∷ names) =
+    λ f e x. subst (λ (g : ReadField). BodyTells at (g .taken) (six ∷ names)) (sym e) x in
+    field-tells file at 0x02 (λ b. got b .taken) (λ b. withRead s i (got b .read)) (six ∷ names)
     (λ h.
     let long = body-length (drop at file) 2 0 (getD (drop at file) 0 0) len h in
     let bounds = read-length (drop at file) (getD (drop at file) 0 0) len h in
@@ -211,7 +209,7 @@ read-tells file at s i =
     (λ n6.
     let k = kind-known s i kind index (not-false (kindFits s i kind index) n6) in
     told _ (read-known (s .n) (sensorAt (s .reads)) used i body (k .0) (nameField used (drop 2 body)) (k .1) refl)
-    (body-behind at (nameField used (drop 2 body) .told) six names n6 (name-tells at s i 0 (drop 2 body) (omega arith) (omega arith)))))
+    (body-behind at (nameField used (drop 2 body) .taken) six names n6 (name-tells at s i 0 (drop 2 body) (omega arith) (omega arith)))))
 
 -- ---- outputs
 
@@ -221,21 +219,13 @@ output-tells file at s j =
     let body = bodyAt file at in
     let len = bodyLength (drop at file) in
     let got = nameField (isUsed (s .reads) (s .r) (s .outputs) j) in
-    field-tells file at 0x03 (λ b. got b .told) (λ b. withOutput s j (got b .name)) (nameTests at s (s .r) j body)
+    field-tells file at 0x03 (λ b. got b .taken) (λ b. withOutput s j (got b .name)) (nameTests at s (s .r) j body)
     (λ h.
     let long = body-length (drop at file) 3 0 (getD (drop at file) 0 0) len h in
     let bounds = output-length (drop at file) (getD (drop at file) 0 0) len h in
     name-tells at s (s .r) j body (omega arith) (omega arith))
 
 -- ---- literals
-
-abbrev TellsLiterals : ℕ → Taken → List Test → Type 0
-TellsLiterals at (Failed c) column = FirstFails column c at
-TellsLiterals at Passed column = NoneFails column
-
-literals-behind : (at : ℕ) (t : Taken) (x : Test) (column : List Test) → x .fails ≡ false → TellsLiterals at t column → TellsLiterals at t (x ∷ column)
-literals-behind at (Failed c) x column n y = inr (n, y)
-literals-behind at Passed x column n y = (n, y)
 
 -- each read literal that passes 9 is of a read place
 abbrev ReadsWithin : ℕ → ℕ → List Said → Type 0
@@ -272,11 +262,11 @@ eleven l next later low h = go (l .out) low h
 abbrev withEleven : ℕ → ℕ → ℕ → ℕ → List Said → List Test
 withEleven at r n next said = literalTests at r n next said ++ (test 11 at (leb next mostReads && not (namesOutput said)) ∷ [])
 
-literals-tell : (at r n next : ℕ) (c : Constraint) (said : List Said) → ReadsWithin r n said → TellsLiterals at (literalsFrom r n next c said .taken) (withEleven at r n next said)
+literals-tell : (at r n next : ℕ) (c : Constraint) (said : List Said) → ReadsWithin r n said → BodyTells at (literalsFrom r n next c said .taken) (withEleven at r n next said)
 unfolding literalsFrom literalTests namesOutput
 literals-tell at r n next c [] within = go (leb next mostReads)
   where
-    go : (b : Bool) → TellsLiterals at (cond b (refusedLiterals 11) (goodLiterals c) .taken) (test 11 at (b && true) ∷ [])
+    go : (b : Bool) → BodyTells at (cond b (refusedLiterals 11) (goodLiterals c) .taken) (test 11 at (b && true) ∷ [])
     go true = inl (refl, refl, refl)
     go false = (refl, tt)
 literals-tell at r n next c (l ∷ rest) within =
@@ -288,19 +278,19 @@ literals-tell at r n next c (l ∷ rest) within =
     behind-two : List Test
     behind-two = literalTests at r n (place l + 1) rest ++ (test 11 at (leb next mostReads && not (l .out || namesOutput rest)) ∷ [])
 
-    go : (literal below : Bool) → isLiteral l r n ≡ literal → ltb (place l) next ≡ below → TellsLiterals at (others .taken) (withEleven at r n (place l + 1) rest)
-        → TellsLiterals at (literalThen literal (leb next (place l)) others .taken) (test 9 at (not literal) ∷ test 10 at below ∷ behind-two)
+    go : (literal below : Bool) → isLiteral l r n ≡ literal → ltb (place l) next ≡ below → BodyTells at (others .taken) (withEleven at r n (place l + 1) rest)
+        → BodyTells at (literalThen literal (leb next (place l)) others .taken) (test 9 at (not literal) ∷ test 10 at below ∷ behind-two)
     go false below i e x = inl (refl, refl, refl)
     go true true i e x =
-        subst (λ (b : Bool). TellsLiterals at (literalThen true b others .taken) (test 9 at false ∷ test 10 at true ∷ behind-two))
+        subst (λ (b : Bool). BodyTells at (literalThen true b others .taken) (test 9 at false ∷ test 10 at true ∷ behind-two))
         (sym (lt-leb next (place l) (ltb-true (place l) next e))) (inr (refl, inl (refl, refl, refl)))
     go true false i e x =
         let h : next ≤ place l = ltb-false (place l) next e in
-        let y = subst (λ (b : Bool). TellsLiterals at (others .taken) (literalTests at r n (place l + 1) rest ++ (test 11 at b ∷ [])))
+        let y = subst (λ (b : Bool). BodyTells at (others .taken) (literalTests at r n (place l + 1) rest ++ (test 11 at b ∷ [])))
         (sym (eleven l next (namesOutput rest) (within .0 i) h)) x in
-        subst (λ (b : Bool). TellsLiterals at (literalThen true b others .taken) (test 9 at false ∷ test 10 at false ∷ behind-two)) (sym (le-leb next (place l) h))
-        (literals-behind at (others .taken) (test 9 at false) (test 10 at false ∷ behind-two) refl
-        (literals-behind at (others .taken) (test 10 at false) behind-two refl y))
+        subst (λ (b : Bool). BodyTells at (literalThen true b others .taken) (test 9 at false ∷ test 10 at false ∷ behind-two)) (sym (le-leb next (place l) h))
+        (body-behind at (others .taken) (test 9 at false) (test 10 at false ∷ behind-two) refl
+        (body-behind at (others .taken) (test 10 at false) behind-two refl y))
 
 -- ---- constraints and the end
 
@@ -314,9 +304,9 @@ constraint-tells file at s = go (got .taken) (literals-tell at (s .r) (s .n) 0 _
     got : Literals
     got = literalsOf (s .r) (s .n) (bodyAt file at)
 
-    go : (t : Taken) → TellsLiterals at t (withEleven at (s .r) (s .n) 0 said) → Tells (constraintDone at (bodyLength (drop at file)) s t (got .made)) (withEleven at (s .r) (s .n) 0 said)
-    go (Failed c) x = x
-    go Passed x = x
+    go : (t : Taken) → BodyTells at t (withEleven at (s .r) (s .n) 0 said) → Tells (fieldDone at (bodyLength (drop at file)) t (withConstraint s (got .made))) (withEleven at (s .r) (s .n) 0 said)
+    go (Denied c) x = x
+    go Good x = x
 
 end-tells : (file : List ℕ) (at : ℕ) (s : Set) → Tells (endAt file at s) (endTests file at)
 unfolding endTests

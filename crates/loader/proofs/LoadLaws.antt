@@ -18,7 +18,7 @@ use Rattle.shape.specs.Spelling.{spelling}
 use Rattle.scan.specs.Shape.{countTests}
 use Rattle.header.specs.declared.header.Header.the-variants.{Refused as Stopped, Field}
 use Rattle.header.specs.Header.{headerOf, bodyOf}
-use Rattle.loader.specs.declared.point.Point.the-variants.{Refused as Denied, Good}
+use Rattle.header.specs.declared.numbers.Taken.the-variants.{Refused as Denied, Good}
 use Rattle.loader.specs.declared.point.KindRead.the-variants.{Bad, Known}
 use Rattle.loader.specs.declared.point.NameField.{NameField}
 use Rattle.loader.specs.Load.{refusal, goingOn, fieldBy, countsTold, countsMade, ofCounts, countsAt, nameTold, nameField, kindIf, kindOf, readTold, readField}
@@ -64,18 +64,18 @@ module _ (s : List ℕ) where
 -- ---- a name, by what its bytes spell
 
 module _ (used : List ℕ → Bool) (bytes : List ℕ) (got : Spelled) (e : got ≡ spelling bytes) where
-  told : nameField used bytes ≡ nameTold used got
+  spelled : nameField used bytes ≡ nameTold used got
   unfolding nameField
-  told = ap (nameTold used) (sym e)
+  spelled = ap (nameTold used) (sym e)
 
-  pub name-bad : got .good ≡ false → nameField used bytes ≡ record { told = Denied 7; name = zeroName }
-  name-bad g = told ∙ rw g
+  pub name-bad : got .good ≡ false → nameField used bytes ≡ record { taken = Denied 7; name = zeroName }
+  name-bad g = spelled ∙ rw g
 
-  pub name-used : got .good ≡ true → used (got .name) ≡ true → nameField used bytes ≡ record { told = Denied 8; name = zeroName }
-  name-used g u = told ∙ rw (g, u)
+  pub name-used : got .good ≡ true → used (got .name) ≡ true → nameField used bytes ≡ record { taken = Denied 8; name = zeroName }
+  name-used g u = spelled ∙ rw (g, u)
 
-  pub name-good : got .good ≡ true → used (got .name) ≡ false → nameField used bytes ≡ record { told = Good; name = got .name }
-  name-good g u = told ∙ rw (g, u)
+  pub name-good : got .good ≡ true → used (got .name) ≡ false → nameField used bytes ≡ record { taken = Good; name = got .name }
+  name-good g u = spelled ∙ rw (g, u)
 
 -- ---- a read point
 
@@ -103,11 +103,11 @@ module _ (n : ℕ) (sensor : ℕ → Bool) (i index : ℕ) where
 
 -- its field, by its kind and its name
 module _ (n : ℕ) (sensor : ℕ → Bool) (used : List ℕ → Bool) (i : ℕ) (body : List ℕ) where
-  pub read-bad : kindOf n sensor i (getD body 0 0) (getD body 1 0) ≡ Bad → readField n sensor used i body ≡ record { told = Denied 6; read = zeroRead }
+  pub read-bad : kindOf n sensor i (getD body 0 0) (getD body 1 0) ≡ Bad → readField n sensor used i body ≡ record { taken = Denied 6; read = zeroRead }
   unfolding readField
   read-bad k = ap (readTold (nameField used (drop 2 body))) k
 
   pub read-known : (kind : Kind) (f : NameField) → kindOf n sensor i (getD body 0 0) (getD body 1 0) ≡ Known kind → f ≡ nameField used (drop 2 body)
-      → readField n sensor used i body ≡ record { told = f .told; read = record { kind = kind; name = f .name } }
+      → readField n sensor used i body ≡ record { taken = f .taken; read = record { kind = kind; name = f .name } }
   unfolding readField
-  read-known kind f k e = ap (readTold (nameField used (drop 2 body))) k ∙ ap (λ (g : NameField). record { told = g .told; read = record { kind = kind; name = g .name } }) (sym e)
+  read-known kind f k e = ap (readTold (nameField used (drop 2 body))) k ∙ ap (λ (g : NameField). record { taken = g .taken; read = record { kind = kind; name = g .name } }) (sym e)

@@ -17,17 +17,15 @@ use Rattle.scan.specs.Set.{mostConstraints, zeroSet}
 use Rattle.scan.specs.Shape.{countTests}
 use Rattle.header.specs.declared.header.Header.{Header}
 use Rattle.header.specs.declared.header.Header.the-variants.{Refused as Stopped, Field}
-use Rattle.loader.specs.declared.point.Point.{Point}
-use Rattle.loader.specs.declared.point.Point.the-variants.{Refused as Denied, Good}
-use Rattle.literal.specs.declared.literal.Taken.{Taken}
-use Rattle.literal.specs.declared.literal.Taken.the-variants.{Refused as Failed, Good as Passed}
+use Rattle.header.specs.declared.numbers.Taken.{Taken}
+use Rattle.header.specs.declared.numbers.Taken.the-variants.{Refused as Denied, Good}
 use Rattle.loader.specs.declared.loader.Progress.{Progress}
 use Rattle.loader.specs.declared.loader.Progress.the-variants.{At, Refused}
 use Rattle.loader.specs.declared.loader.LoadAnswer.the-variants.{Loaded, Refused as WasRefused}
 use Rattle.header.specs.Header.{headerOf, bodyOf}
 use Rattle.literal.specs.Literal.{literalsOf}
-use Rattle.loader.specs.Load.{Loading, refusal, goingOn, thenFrom, andThen, taken, fieldBy, goodIf, countsTold, countsMade, countsAt, readOf, withRead, readAt, readsFrom}
-use Rattle.loader.specs.Load.{outputOf, withOutput, outputAt, outputsFrom, constraintDone, constraintAt, endAt, constraintsGiven, constraintsFrom, afterCounts, afterReads, answerOf, loadFrom, loadOf}
+use Rattle.loader.specs.Load.{Loading, refusal, goingOn, thenFrom, andThen, fieldDone, fieldBy, goodIf, countsTold, countsMade, countsAt, readOf, withRead, readAt, readsFrom}
+use Rattle.loader.specs.Load.{outputOf, withOutput, outputAt, outputsFrom, withConstraint, constraintAt, endAt, constraintsGiven, constraintsFrom, afterCounts, afterReads, answerOf, loadFrom, loadOf}
 
 -- a refusal has the zero set, and a set on its way has an output
 abbrev Shown : Progress → Set → Type 0
@@ -50,14 +48,14 @@ cond-shows true l m h f = h refl
 cond-shows false l m h f = f
 
 -- so with a field, where what its body gives has an output if it is good
-field-shows : (file : List ℕ) (at : ℕ) (told : List ℕ → Point) (made : List ℕ → Set) → ((body : List ℕ) → told body ≡ Good → 1 ≤ made body .n) → (h : Header) → Shows (fieldBy file at told made h)
+field-shows : (file : List ℕ) (at : ℕ) (told : List ℕ → Taken) (made : List ℕ → Set) → ((body : List ℕ) → told body ≡ Good → 1 ≤ made body .n) → (h : Header) → Shows (fieldBy file at told made h)
 field-shows file at told made f (Stopped number) = refl
 field-shows file at told made f (Field tag len) = go (told body) refl
   where
     body : List ℕ
     body = bodyOf (drop at file) len
 
-    go : (t : Point) → told body ≡ t → Shows (taken at len t (made body))
+    go : (t : Taken) → told body ≡ t → Shows (fieldDone at len t (made body))
     go (Denied number) e = refl
     go Good e = f body e
 
@@ -83,13 +81,13 @@ reads-show : (file : List ℕ) (left i at : ℕ) (s : Set) → 1 ≤ s .n → Sh
 unfolding readsFrom readAt
 reads-show file =
     points-show (readsFrom file) (readAt file) (λ i at s. refl) (λ left i at s. refl)
-    (λ i at s e. field-shows file at (λ b. readOf s i b .told) (λ b. withRead s i (readOf s i b .read)) (λ b g. e) (headerOf (drop at file) 2 0))
+    (λ i at s e. field-shows file at (λ b. readOf s i b .taken) (λ b. withRead s i (readOf s i b .read)) (λ b g. e) (headerOf (drop at file) 2 0))
 
 outputs-show : (file : List ℕ) (left j at : ℕ) (s : Set) → 1 ≤ s .n → Shows (outputsFrom file left j at s)
 unfolding outputsFrom outputAt
 outputs-show file =
     points-show (outputsFrom file) (outputAt file) (λ j at s. refl) (λ left j at s. refl)
-    (λ j at s e. field-shows file at (λ b. outputOf s j b .told) (λ b. withOutput s j (outputOf s j b .name)) (λ b g. e) (headerOf (drop at file) 3 0))
+    (λ j at s e. field-shows file at (λ b. outputOf s j b .taken) (λ b. withOutput s j (outputOf s j b .name)) (λ b g. e) (headerOf (drop at file) 3 0))
 
 constraint-shows : (s : List ℕ) (at len : ℕ) (set : Set) → 1 ≤ set .n → Shows (constraintAt s at len set)
 unfolding constraintAt
@@ -98,9 +96,9 @@ constraint-shows s at len set e = go (literalsOf (set .r) (set .n) (bodyOf (drop
     c : Constraint
     c = literalsOf (set .r) (set .n) (bodyOf (drop at s) len) .made
 
-    go : (t : Taken) → Shows (constraintDone at len set t c)
-    go (Failed number) = refl
-    go Passed = e
+    go : (t : Taken) → Shows (fieldDone at len t (withConstraint set c))
+    go (Denied number) = refl
+    go Good = e
 
 given-shows : (s : List ℕ) (at : ℕ) (set : Set) (next : ℕ → Set → Loading) → 1 ≤ set .n → ((a : ℕ) (t : Set) → 1 ≤ t .n → Shows (next a t)) → (h : Header) → Shows (constraintsGiven s at set next h)
 given-shows s at set next e f (Stopped number) = refl

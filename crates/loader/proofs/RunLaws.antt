@@ -17,13 +17,13 @@ use Rattle.scan.proofs.ShapeLaws.{counts-told}
 use Rattle.header.specs.declared.header.Header.{Header}
 use Rattle.header.specs.declared.header.Header.the-variants.{Refused as Stopped, Field}
 use Rattle.header.specs.Header.{headerOf, bodyOf}
-use Rattle.literal.specs.declared.literal.Taken.{Taken}
+use Rattle.header.specs.declared.numbers.Taken.{Taken}
 use Rattle.literal.specs.declared.literal.Literals.{Literals}
 use Rattle.literal.specs.Literal.{literalsOf}
 use Rattle.loader.specs.declared.loader.Progress.{Progress}
 use Rattle.loader.specs.declared.loader.Progress.the-variants.{At, Refused}
 use Rattle.loader.specs.declared.loader.Loaded.{Loaded}
-use Rattle.loader.specs.Load.{Loading, refusal, goingOn, andThen, taken, fieldBy, ofCounts, goodIf, countsTold, countsMade, countsAt, readAt, readsFrom, outputAt, outputsFrom, constraintDone, constraintGiven, constraintAt, endAt, constraintsGiven, constraintsFrom, answered}
+use Rattle.loader.specs.Load.{Loading, refusal, goingOn, andThen, fieldDone, fieldBy, ofCounts, goodIf, countsTold, countsMade, countsAt, readAt, readsFrom, outputAt, outputsFrom, withConstraint, constraintGiven, constraintAt, endAt, constraintsGiven, constraintsFrom, answered}
 use Rattle.loader.specs.way.Load.{reached, endPlace}
 use Rattle.loader.proofs.LoadLaws.{body-at}
 
@@ -105,13 +105,13 @@ module _ (s : List ℕ) (whole : Loading) (at : ℕ) (set : Set) (few : set .m �
           ∙ ap (λ (g : Literals). andThen (constraintGiven at len set g) (constraintsFrom s (mostConstraints - set .m)))
           (sym (e ∙ ap₂ (literalsOf (set .r)) (min-eq-left few-outputs) (body-at s at len)))
 
-      pub constraints-by : (x : Taken) → f .taken ≡ x → whole ≡ andThen (constraintDone at len set x (f .made)) (constraintsFrom s (mostConstraints - set .m))
-      constraints-by x q = on ∙ ap (λ (y : Taken). andThen (constraintDone at len set y (f .made)) (constraintsFrom s (mostConstraints - set .m))) q
+      pub constraints-by : (x : Taken) → f .taken ≡ x → whole ≡ andThen (fieldDone at len x (withConstraint set (f .made))) (constraintsFrom s (mostConstraints - set .m))
+      constraints-by x q = on ∙ ap (λ (y : Taken). andThen (fieldDone at len y (withConstraint set (f .made))) (constraintsFrom s (mostConstraints - set .m))) q
 
 -- ---- counts that were loaded are in range
 
 module _ (s : List ℕ) (at r n : ℕ) where
-  fit : (u v len : ℕ) (b : Bool) → every (countTests u v 0) ≡ b → taken 0 len (goodIf b 5) (ofCounts u v) ≡ goingOn at (ofCounts r n) → (r ≤ mostReads) × (n ≤ mostOutputs)
+  fit : (u v len : ℕ) (b : Bool) → every (countTests u v 0) ≡ b → fieldDone 0 len (goodIf b 5) (ofCounts u v) ≡ goingOn at (ofCounts r n) → (r ≤ mostReads) × (n ≤ mostOutputs)
   fit u v len true f e =
       let k = counts-told u v 0 f in
       let a : u ≡ r = ap (λ (l : Loading). l .set .r) e in

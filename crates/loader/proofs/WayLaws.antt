@@ -21,19 +21,19 @@ use Rattle.shape.proofs.ShapeWayLaws.{used-names}
 use Rattle.header.specs.declared.header.Header.{Header}
 use Rattle.header.specs.declared.header.Header.the-variants.{Refused as Stopped, Field}
 use Rattle.header.specs.Header.{headerOf, bodyOf}
-use Rattle.loader.specs.declared.point.Point.{Point}
-use Rattle.loader.specs.declared.point.Point.the-variants.{Refused as Denied, Good}
+use Rattle.header.specs.declared.numbers.Taken.{Taken}
+use Rattle.header.specs.declared.numbers.Taken.the-variants.{Refused as Denied, Good}
 use Rattle.loader.specs.declared.step.ReadStep.{ReadStep}
 use Rattle.loader.specs.declared.step.NameStep.{NameStep}
 use Rattle.loader.specs.declared.loader.Progress.{Progress}
-use Rattle.loader.specs.Load.{taken, fieldBy, nameField, readField, sensorAt, readOf, withRead, readAt, outputOf, withOutput, outputAt}
+use Rattle.loader.specs.Load.{fieldDone, fieldBy, nameField, readField, sensorAt, readOf, withRead, readAt, outputOf, withOutput, outputAt}
 use Rattle.loader.specs.way.Load.{notPast, Pasts, placeBehind, readStep, nameStep, reached}
 use Rattle.loader.proofs.LoadLaws.{body-at}
 
 -- ---- steps
 
 -- what code gets from a part of the slice at the place that it was told is what the definitions get from the field's body
-pub field-step : {F X : Type 0} (told : F → Point) (made : Progress → F → X) (s : List ℕ) (at place len : ℕ) (got : List ℕ → F) (f : F) (p : Progress)
+pub field-step : {F X : Type 0} (told : F → Taken) (made : Progress → F → X) (s : List ℕ) (at place len : ℕ) (got : List ℕ → F) (f : F) (p : Progress)
     → place ≡ at → f ≡ got (take (place + 3 + len - (place + 3)) (drop (place + 3) s)) → p ≡ placeBehind place (place + 3 + len) (told f)
     → made p f ≡ made (placeBehind at (at + 3 + len) (told (got (bodyOf (drop at s) len)))) (got (bodyOf (drop at s) len))
 field-step {F} told made s at place len got f p z e d =
@@ -101,7 +101,7 @@ no-outputs : (reads : List ReadPoint) (i : ℕ) (a b : List OutputPoint) (name :
 unfolding isUsed firstOutput first firstFrom
 no-outputs reads i a b name = refl
 
-by-body : (at len : ℕ) (t : Point) (x : Set) → reached (placeBehind at (at + 3 + len) t) x ≡ taken at len t x
+by-body : (at len : ℕ) (t : Taken) (x : Set) → reached (placeBehind at (at + 3 + len) t) x ≡ fieldDone at len t x
 by-body at len (Denied number) x = refl
 by-body at len Good x = refl
 
@@ -121,9 +121,9 @@ module _ (s : List ℕ) (at : ℕ) (base : Set) where
       sym (ap (λ (g : ReadStep). reached (g .progress) (withRead base i (g .read))) got ∙ go (headerOf (drop at s) 2 0))
     where
       go : (h : Header) → reached (readStep s at (readOf base i) h .progress) (withRead base i (readStep s at (readOf base i) h .read))
-          ≡ fieldBy s at (λ body. readOf base i body .told) (λ body. withRead base i (readOf base i body .read)) h
+          ≡ fieldBy s at (λ body. readOf base i body .taken) (λ body. withRead base i (readOf base i body .read)) h
       go (Stopped number) = refl
-      go (Field tag len) = by-body at len (readOf base i (bodyOf (drop at s) len) .told) (withRead base i (readOf base i (bodyOf (drop at s) len) .read))
+      go (Field tag len) = by-body at len (readOf base i (bodyOf (drop at s) len) .taken) (withRead base i (readOf base i (bodyOf (drop at s) len) .read))
 
   pub output-stepped : (names own : List (List ℕ)) (j : ℕ) (f : NameStep) → ReadNames names (base .reads) → OutputNames own (base .outputs) → base .r ≤ mostReads → j ≤ mostOutputs
       → f ≡ nameStep s at (nameField (nameUsed names (min (base .r) mostReads) own (min j mostOutputs))) (headerOf (drop at s) 3 0)
@@ -138,6 +138,6 @@ module _ (s : List ℕ) (at : ℕ) (base : Set) where
       sym (ap (λ (g : NameStep). reached (g .progress) (withOutput base j (g .name))) got ∙ go (headerOf (drop at s) 3 0))
     where
       go : (h : Header) → reached (nameStep s at (outputOf base j) h .progress) (withOutput base j (nameStep s at (outputOf base j) h .name))
-          ≡ fieldBy s at (λ body. outputOf base j body .told) (λ body. withOutput base j (outputOf base j body .name)) h
+          ≡ fieldBy s at (λ body. outputOf base j body .taken) (λ body. withOutput base j (outputOf base j body .name)) h
       go (Stopped number) = refl
-      go (Field tag len) = by-body at len (outputOf base j (bodyOf (drop at s) len) .told) (withOutput base j (outputOf base j (bodyOf (drop at s) len) .name))
+      go (Field tag len) = by-body at len (outputOf base j (bodyOf (drop at s) len) .taken) (withOutput base j (outputOf base j (bodyOf (drop at s) len) .name))

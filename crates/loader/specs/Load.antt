@@ -20,11 +20,9 @@ use Rattle.scan.specs.Names.{isUsed}
 use Rattle.scan.specs.Shape.{countTests, isSensor}
 use Rattle.header.specs.declared.header.Header.{Header}
 use Rattle.header.specs.declared.header.Header.the-variants.{Refused as Stopped, Field}
-use Rattle.literal.specs.declared.literal.Taken.{Taken}
-use Rattle.literal.specs.declared.literal.Taken.the-variants.{Refused as Failed, Good as Passed}
+use Rattle.header.specs.declared.numbers.Taken.{Taken}
+use Rattle.header.specs.declared.numbers.Taken.the-variants.{Refused as Denied, Good}
 use Rattle.literal.specs.declared.literal.Literals.{Literals}
-use Rattle.loader.specs.declared.point.Point.{Point}
-use Rattle.loader.specs.declared.point.Point.the-variants.{Refused as Denied, Good}
 use Rattle.loader.specs.declared.point.KindRead.{KindRead}
 use Rattle.loader.specs.declared.point.KindRead.the-variants.{Bad, Known}
 use Rattle.loader.specs.declared.point.NameField.{NameField}
@@ -64,17 +62,17 @@ andThen l next = thenFrom (l .progress) (l .set) next
 -- ---- a field
 
 -- a body of `len` bytes is refused, or gives the set and the place behind it
-abbrev pub taken : ℕ → ℕ → Point → Set → Loading
-taken at len (Denied number) set = refusal number at
-taken at len Good set = goingOn (at + 3 + len) set
+abbrev pub fieldDone : ℕ → ℕ → Taken → Set → Loading
+fieldDone at len (Denied number) set = refusal number at
+fieldDone at len Good set = goingOn (at + 3 + len) set
 
 -- by the field's header, then by what its body tells; `made` is the set with what the body gives
-abbrev pub fieldBy : List ℕ → ℕ → (List ℕ → Point) → (List ℕ → Set) → Header → Loading
+abbrev pub fieldBy : List ℕ → ℕ → (List ℕ → Taken) → (List ℕ → Set) → Header → Loading
 fieldBy s at told made (Stopped number) = refusal number at
-fieldBy s at told made (Field tag len) = taken at len (told (bodyOf (drop at s) len)) (made (bodyOf (drop at s) len))
+fieldBy s at told made (Field tag len) = fieldDone at len (told (bodyOf (drop at s) len)) (made (bodyOf (drop at s) len))
 
 -- the field at the place `at`, where the tag `due` is due
-abbrev pub fieldAt : List ℕ → ℕ → ℕ → (List ℕ → Point) → (List ℕ → Set) → Loading
+abbrev pub fieldAt : List ℕ → ℕ → ℕ → (List ℕ → Taken) → (List ℕ → Set) → Loading
 fieldAt s at due told made = fieldBy s at told made (headerOf (drop at s) due 0)
 
 -- ---- 0x01: r and n
@@ -84,12 +82,12 @@ abbrev pub ofCounts : ℕ → ℕ → Set
 ofCounts r n = withCounts zeroSet r n 0
 
 -- good if the test passes, else the refusal
-abbrev pub goodIf : Bool → ℕ → Point
+abbrev pub goodIf : Bool → ℕ → Taken
 goodIf true number = Good
 goodIf false number = Denied number
 
 -- 5, or the counts are good
-abbrev pub countsTold : List ℕ → Point
+abbrev pub countsTold : List ℕ → Taken
 countsTold body = goodIf (every (countTests (getD body 0 0) (getD body 1 0) 0)) 5
 
 -- the set of the counts in a body
@@ -106,8 +104,8 @@ countsAt s = fieldAt s 0 1 countsTold countsMade
 abbrev pub nameTold : (List ℕ → Bool) → Spelled → NameField
 nameTold used got =
     cond (got .good)
-    (cond (used (got .name)) (record { told = Denied 8; name = zeroName }) (record { told = Good; name = got .name }))
-    (record { told = Denied 7; name = zeroName })
+    (cond (used (got .name)) (record { taken = Denied 8; name = zeroName }) (record { taken = Good; name = got .name }))
+    (record { taken = Denied 7; name = zeroName })
 
 -- the name that bytes spell
 unfoldable pub nameField : (List ℕ → Bool) → List ℕ → NameField
@@ -131,8 +129,8 @@ kindOf n sensor i kind index =
 
 -- 6, or the read point of the kind and the name
 abbrev pub readTold : NameField → KindRead → ReadField
-readTold named Bad = record { told = Denied 6; read = zeroRead }
-readTold named (Known kind) = record { told = named .told; read = record { kind = kind; name = named .name } }
+readTold named Bad = record { taken = Denied 6; read = zeroRead }
+readTold named (Known kind) = record { taken = named .taken; read = record { kind = kind; name = named .name } }
 
 -- read point i of a body
 unfoldable pub readField : ℕ → (ℕ → Bool) → (List ℕ → Bool) → ℕ → List ℕ → ReadField
@@ -152,7 +150,7 @@ withRead set i p = withReads set (store (set .reads) i p)
 
 -- read point i
 unfoldable pub readAt : List ℕ → ℕ → Set → ℕ → Loading
-readAt s at set i = fieldAt s at 2 (λ body. readOf set i body .told) (λ body. withRead set i (readOf set i body .read))
+readAt s at set i = fieldAt s at 2 (λ body. readOf set i body .taken) (λ body. withRead set i (readOf set i body .read))
 
 -- `left` read points, from read point i on
 unfoldable pub readsFrom : List ℕ → ℕ → ℕ → ℕ → Set → Loading
@@ -171,7 +169,7 @@ withOutput set j name = withOutputs set (store (set .outputs) j (record { name =
 
 -- output j
 unfoldable pub outputAt : List ℕ → ℕ → Set → ℕ → Loading
-outputAt s at set j = fieldAt s at 3 (λ body. outputOf set j body .told) (λ body. withOutput set j (outputOf set j body .name))
+outputAt s at set j = fieldAt s at 3 (λ body. outputOf set j body .taken) (λ body. withOutput set j (outputOf set j body .name))
 
 -- `left` outputs, from output j on
 unfoldable pub outputsFrom : List ℕ → ℕ → ℕ → ℕ → Set → Loading
@@ -184,14 +182,9 @@ outputsFrom s (suc left) j at set = andThen (outputAt s at set j) (outputsFrom s
 abbrev pub withConstraint : Set → Constraint → Set
 withConstraint set c = withCounts (withConstraints set (store (set .constraints) (set .m) c)) (set .r) (set .n) (set .m + 1)
 
--- the refusal, or the set with the constraint
-abbrev pub constraintDone : ℕ → ℕ → Set → Taken → Constraint → Loading
-constraintDone at len set (Failed number) c = refusal number at
-constraintDone at len set Passed c = goingOn (at + 3 + len) (withConstraint set c)
-
 -- by what its literals give
 abbrev pub constraintGiven : ℕ → ℕ → Set → Literals → Loading
-constraintGiven at len set got = constraintDone at len set (got .taken) (got .made)
+constraintGiven at len set got = fieldDone at len (got .taken) (withConstraint set (got .made))
 
 -- a constraint whose body has `len` bytes
 unfoldable pub constraintAt : List ℕ → ℕ → ℕ → Set → Loading

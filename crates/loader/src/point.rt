@@ -2,6 +2,7 @@
 use header::BAD_KIND;
 use header::BAD_NAME_BYTE;
 use header::NAME_USED;
+use header::Taken;
 use scan::Kind;
 use scan::MOST_OUTPUTS;
 use scan::MOST_READS;
@@ -14,23 +15,17 @@ ghost use Prim.Native.Nat.{_≤_, min};
 ghost use lib.ListN.{length};
 ghost use Rattle.scan.specs.Set.{mostReads, mostOutputs, zeroName};
 ghost use Rattle.shape.specs.way.Names.{nameUsed};
-ghost use Rattle.loader.specs.declared.point.Point.the-variants.{Refused as Denied};
+ghost use Rattle.header.specs.declared.numbers.Taken.the-variants.{Refused as Denied};
 ghost use Rattle.loader.specs.Load.{nameField, kindOf, readField};
 ghost use Rattle.loader.specs.way.Load.{notPast};
 
-// A refusal's number, or that the body is good.
-pub enum Point {
-    Refused(u8),
-    Good,
-}
-
 pub struct NameField {
-    pub told: Point,
+    pub taken: Taken,
     pub name: [u8; NAME_PLACES],
 }
 
 pub struct ReadField {
-    pub told: Point,
+    pub taken: Taken,
     pub read: ReadPoint,
 }
 
@@ -71,11 +66,11 @@ fn kind_of(pasts: &[bool; MOST_READS], n: usize, i: usize, kind: u8, index: u8) 
 }
 
 fn no_name(number: u8) -> NameField
-    ensures { λ f. ⌜ f ≡ record { told = Denied number; name = zeroName } ⌝ }
+    ensures { λ f. ⌜ f ≡ record { taken = Denied number; name = zeroName } ⌝ }
 {
     let name = [0u8; NAME_PLACES];
     NameField {
-        told: Point::Refused(number),
+        taken: Taken::Refused(number),
         name,
     }
 }
@@ -99,7 +94,7 @@ pub fn name_of<'a>(
         return no_name(NAME_USED);
     }
     NameField {
-        told: Point::Good,
+        taken: Taken::Good,
         name,
     }
 }
@@ -125,16 +120,16 @@ pub fn read_field<'a>(
                 name,
             };
             ReadField {
-                told: Point::Refused(BAD_KIND),
+                taken: Taken::Refused(BAD_KIND),
                 read,
             }
         }
         KindRead::Known(kind) => {
             let f = name_of(&body[2..], reads, i, outputs, 0);
-            let told = f.told;
+            let taken = f.taken;
             let name = f.name;
             let read = ReadPoint { kind, name };
-            ReadField { told, read }
+            ReadField { taken, read }
         }
     }
 }

@@ -1,11 +1,11 @@
 // The field of a read point or an output, from its header to what its body gives.
 use super::loader::Progress;
-use super::point::Point;
 use super::point::name_of;
 use super::point::read_field;
 use header::Header;
 use header::TAG_OUTPUT;
 use header::TAG_READ;
+use header::Taken;
 use header::front_at;
 use scan::Kind;
 use scan::MOST_OUTPUTS;
@@ -33,12 +33,12 @@ pub struct NameStep {
 }
 
 // The place behind a body of `len` bytes, or its refusal.
-fn place_behind(at: usize, behind: usize, told: Point) -> Progress
-    ensures { λ p. ⌜ p ≡ placeBehind at behind told ⌝ }
+fn place_behind(at: usize, behind: usize, taken: Taken) -> Progress
+    ensures { λ p. ⌜ p ≡ placeBehind at behind taken ⌝ }
 {
-    match told {
-        Point::Refused(number) => Progress::Refused(number, at),
-        Point::Good => Progress::At(behind),
+    match taken {
+        Taken::Refused(number) => Progress::Refused(number, at),
+        Taken::Good => Progress::At(behind),
     }
 }
 
@@ -77,10 +77,10 @@ pub fn read_at<'a>(
         Header::Field(_, len) => {
             let behind = here + 3 + len;
             let f = read_field(&s[here + 3..behind], n, pasts, reads, outputs, i);
-            let told = f.told;
+            let taken = f.taken;
             let read = f.read;
             ReadStep {
-                progress: place_behind(here, behind, told),
+                progress: place_behind(here, behind, taken),
                 read,
             }
         }
@@ -116,10 +116,10 @@ pub fn output_at<'a>(
         Header::Field(_, len) => {
             let behind = here + 3 + len;
             let f = name_of(&s[here + 3..behind], reads, r, outputs, j);
-            let told = f.told;
+            let taken = f.taken;
             let name = f.name;
             NameStep {
-                progress: place_behind(here, behind, told),
+                progress: place_behind(here, behind, taken),
                 name,
             }
         }

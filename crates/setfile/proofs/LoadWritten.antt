@@ -13,7 +13,7 @@ use Rattle.scan.specs.Set.{mostReads, mostOutputs, mostPoints, mostConstraints,
 use Rattle.scan.specs.Shape.{countTests, constraintTests, wellFormed}
 use Rattle.scan.proofs.ShapeLaws.{constraint-ok, counts, beyond-zero, points-formed}
 use Rattle.loader.specs.declared.loader.LoadAnswer.the-variants.{Loaded}
-use Rattle.loader.specs.Load.{Loading, goingOn, andThen, taken, fieldBy, ofCounts, goodIf, countsTold, countsMade, countsAt, constraintsFrom, afterCounts, afterReads, afterOutputs, answered, loadFrom, loadOf}
+use Rattle.loader.specs.Load.{Loading, goingOn, andThen, fieldDone, fieldBy, ofCounts, goodIf, countsTold, countsMade, countsAt, constraintsFrom, afterCounts, afterReads, afterOutputs, answered, loadFrom, loadOf}
 use Rattle.writer.specs.Write.{fieldOf, readBody, outputBody, literalBody, fieldsOf, writeOf}
 use Rattle.setfile.proofs.Fields.{field-back}
 use Rattle.setfile.proofs.PointsFit.{read-fits, output-fits}
@@ -59,7 +59,7 @@ module _ (s : Set) (ok : wellFormed s ≡ true) where
     counts-back =
         ap countsAt e
         ∙ ap (fieldBy (fieldOf 0x01 (s .r ∷ s .n ∷ []) ++ restFields s) 0 countsTold countsMade) (field-back 1 (s .r ∷ s .n ∷ []) (restFields s) 1 0 refl refl refl)
-        ∙ ap (λ (b : Bool). taken 0 2 (goodIf b 5) (ofCounts (s .r) (s .n))) counts-pass
+        ∙ ap (λ (b : Bool). fieldDone 0 2 (goodIf b 5) (ofCounts (s .r) (s .n))) counts-pass
 
     loads : loadFrom file ≡ goingOn (length file) s
     unfolding loadFrom zeroSet

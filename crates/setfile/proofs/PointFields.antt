@@ -18,7 +18,7 @@ use Rattle.scan.specs.Set.{namePlaces, readPoint}
 use Rattle.shape.specs.Spelling.{spelling}
 use Rattle.scan.specs.Names.{nameBytes, nameOk, firstOutput, isUsed}
 use Rattle.scan.specs.Shape.{isSensor, kindOk}
-use Rattle.loader.specs.declared.point.Point.the-variants.{Refused as Denied, Good}
+use Rattle.header.specs.declared.numbers.Taken.the-variants.{Refused as Denied, Good}
 use Rattle.loader.specs.declared.point.KindRead.{KindRead}
 use Rattle.loader.specs.declared.point.KindRead.the-variants.{Bad, Known}
 use Rattle.loader.specs.declared.point.NameField.{NameField}
@@ -79,16 +79,16 @@ unfolding firstOutput first firstFrom
 no-outputs set name = refl
 
 -- a name that fits is given by its bytes, where it is not used
-name-told : (used : List ℕ → Bool) (name : List ℕ) → nameOk name ≡ true → used name ≡ false → nameField used (nameBytes name) ≡ record { told = Good; name = name }
+name-told : (used : List ℕ → Bool) (name : List ℕ) → nameOk name ≡ true → used name ≡ false → nameField used (nameBytes name) ≡ record { taken = Good; name = name }
 name-told used name ok new = name-good used (nameBytes name) (record { good = true; name = name }) (sym (name-back name ok)) refl new
 
 -- The body of a read point that fits gives the point.
-pub read-back : (set : Set) (i : ℕ) (p : ReadPoint) → ReadFits (set .n) (set .reads) i p → readOf set i (readBody p) ≡ record { told = Good; read = p }
+pub read-back : (set : Set) (i : ℕ) (p : ReadPoint) → ReadFits (set .n) (set .reads) i p → readOf set i (readBody p) ≡ record { taken = Good; read = p }
 unfolding readOf
 read-back set i p f =
     let used = isUsed (set .reads) i (set .outputs) 0 in
     let named = name-told used (p .name) (f .name-ok) (not-used (set .reads) i (set .outputs) 0 (p .name) (f .own) (no-outputs set (p .name))) in
-    read-known (set .n) (sensorAt (set .reads)) used i (readBody p) (p .kind) (record { told = Good; name = p .name })
+    read-known (set .n) (sensorAt (set .reads)) used i (readBody p) (p .kind) (record { taken = Good; name = p .name })
     (kind-back set i (p .kind) (nameBytes (p .name)) (f .kind-ok)) (sym (ap (nameField used) (kind-drop (p .kind) (nameBytes (p .name))) ∙ named))
 
 -- what a name that was given tells of its bytes
@@ -97,11 +97,11 @@ record NameTold (used : List ℕ → Bool) (bytes : List ℕ) : Type 0 where
   same : nameBytes (nameField used bytes .name) ≡ bytes
   new : used (nameField used bytes .name) ≡ false
 
-name-given : (used : List ℕ → Bool) (bytes : List ℕ) → 1 ≤ length bytes → length bytes ≤ namePlaces → nameField used bytes .told ≡ Good → NameTold used bytes
+name-given : (used : List ℕ → Bool) (bytes : List ℕ) → 1 ≤ length bytes → length bytes ≤ namePlaces → nameField used bytes .taken ≡ Good → NameTold used bytes
 name-given used bytes some few t = go (spelling bytes .good) refl
   where
     by-used : (u : Bool) → spelling bytes .good ≡ true → used (spelling bytes .name) ≡ u → NameTold used bytes
-    by-used true g e = absurd (never (sym (ap (λ (f : NameField). f .told) (name-used used bytes (spelling bytes) refl g e)) ∙ t))
+    by-used true g e = absurd (never (sym (ap (λ (f : NameField). f .taken) (name-used used bytes (spelling bytes) refl g e)) ∙ t))
       where
         never : Denied 8 ≡ Good → ⊥
         never w = let z : _≡_ {A = ℕ} 0 1 = cc in omega arith
@@ -116,14 +116,14 @@ name-given used bytes some few t = go (spelling bytes .good) refl
 
     go : (g : Bool) → spelling bytes .good ≡ g → NameTold used bytes
     go true g = by-used (used (spelling bytes .name)) g refl
-    go false g = absurd (never (sym (ap (λ (f : NameField). f .told) (name-bad used bytes (spelling bytes) refl g)) ∙ t))
+    go false g = absurd (never (sym (ap (λ (f : NameField). f .taken) (name-bad used bytes (spelling bytes) refl g)) ∙ t))
       where
         never : Denied 7 ≡ Good → ⊥
         never w = let z : _≡_ {A = ℕ} 0 1 = cc in omega arith
 
 module _ (body : List ℕ) (set : Set) (i : ℕ) (some : 3 ≤ length body) (few : length body ≤ 2 + namePlaces) where
   by-kind : (kr : KindRead) → kindOf (set .n) (sensorAt (set .reads)) i (getD body 0 0) (getD body 1 0) ≡ kr → let f = readTold (nameField (isUsed (set .reads) i (set .outputs) 0) (drop 2 body)) kr in
-      f .told ≡ Good → ReadFits (set .n) (set .reads) i (f .read) × (readBody (f .read) ≡ body)
+      f .taken ≡ Good → ReadFits (set .n) (set .reads) i (f .read) × (readBody (f .read) ≡ body)
   by-kind Bad e t = let z : _≡_ {A = ℕ} 0 1 = cc in absurd (omega arith)
   by-kind (Known kind) e t =
       let l = length-drop 2 body in
@@ -134,20 +134,20 @@ module _ (body : List ℕ) (set : Set) (i : ℕ) (some : 3 ≤ length body) (few
       )
 
   -- A body that gives a read point is the one written for it, and the point fits.
-  pub read-taken : readOf set i body .told ≡ Good → ReadFits (set .n) (set .reads) i (readOf set i body .read) × (readBody (readOf set i body .read) ≡ body)
+  pub read-taken : readOf set i body .taken ≡ Good → ReadFits (set .n) (set .reads) i (readOf set i body .read) × (readBody (readOf set i body .read) ≡ body)
   unfolding readOf readField
   read-taken t = by-kind (kindOf (set .n) (sensorAt (set .reads)) i (getD body 0 0) (getD body 1 0)) refl t
 
 -- ---- outputs
 
 -- The body of an output that fits gives its name.
-pub output-back : (set : Set) (j : ℕ) (p : OutputPoint) → OutputFits (set .reads) (set .r) (set .outputs) j p → outputOf set j (outputBody p) ≡ record { told = Good; name = p .name }
+pub output-back : (set : Set) (j : ℕ) (p : OutputPoint) → OutputFits (set .reads) (set .r) (set .outputs) j p → outputOf set j (outputBody p) ≡ record { taken = Good; name = p .name }
 unfolding outputOf
 output-back set j p f =
     name-told (isUsed (set .reads) (set .r) (set .outputs) j) (p .name) (f .name-ok) (not-used (set .reads) (set .r) (set .outputs) j (p .name) (f .no-read) (f .own))
 
 -- A body that gives an output's name is the one written for it, and the output fits.
-pub output-taken : (body : List ℕ) (set : Set) (j : ℕ) → 1 ≤ length body → length body ≤ namePlaces → outputOf set j body .told ≡ Good
+pub output-taken : (body : List ℕ) (set : Set) (j : ℕ) → 1 ≤ length body → length body ≤ namePlaces → outputOf set j body .taken ≡ Good
     → OutputFits (set .reads) (set .r) (set .outputs) j (record { name = outputOf set j body .name }) × (outputBody (record { name = outputOf set j body .name }) ≡ body)
 unfolding outputOf
 output-taken body set j some few t =

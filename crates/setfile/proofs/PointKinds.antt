@@ -15,8 +15,8 @@ use Rattle.scan.specs.declared.set.OutputPoint.{OutputPoint}
 use Rattle.scan.specs.declared.set.Set.{Set}
 use Rattle.scan.specs.Set.{mostReads, mostOutputs, namePlaces, zeroRead, zeroOutput, withReads, withOutputs, noRead, noOutput}
 use Rattle.scan.specs.Names.{nameBytes}
-use Rattle.loader.specs.declared.point.Point.{Point}
-use Rattle.loader.specs.declared.point.Point.the-variants.{Good}
+use Rattle.header.specs.declared.numbers.Taken.{Taken}
+use Rattle.header.specs.declared.numbers.Taken.the-variants.{Good}
 use Rattle.loader.specs.declared.point.ReadField.{ReadField}
 use Rattle.loader.specs.declared.point.NameField.{NameField}
 use Rattle.header.specs.Header.{headerOf, fitsTable}
@@ -48,8 +48,8 @@ readRun file r n = record {
   local = read-local n;
 }
 
-abbrev pub readSaid : List ℕ → Set → ℕ → Point
-readSaid b s i = readOf s i b .told
+abbrev pub readSaid : List ℕ → Set → ℕ → Taken
+readSaid b s i = readOf s i b .taken
 
 abbrev pub readValue : List ℕ → Set → ℕ → ReadPoint
 readValue b s i = readOf s i b .read
@@ -64,7 +64,7 @@ module _ (file : List ℕ) (r n : ℕ) where
       let len = length (readBody p) in
       let t = read-back (readsBase r n i l) i p f in (
         simp (le-leb 3 len (omega (arith, w, k, b)), le-leb len (2 + namePlaces) (omega (arith, w, k, b)), mod-one len),
-        ap (λ (x : ReadField). x .told) t,
+        ap (λ (x : ReadField). x .taken) t,
         ap (λ (x : ReadField). x .read) t,
       )
     where
@@ -114,8 +114,8 @@ outputRun file r n reads = record {
   local = output-local reads r;
 }
 
-abbrev pub outputSaid : List ℕ → Set → ℕ → Point
-outputSaid b s j = outputOf s j b .told
+abbrev pub outputSaid : List ℕ → Set → ℕ → Taken
+outputSaid b s j = outputOf s j b .taken
 
 abbrev pub outputValue : List ℕ → Set → ℕ → OutputPoint
 outputValue b s j = record { name = outputOf s j b .name }
@@ -127,7 +127,7 @@ module _ (file : List ℕ) (r n : ℕ) (reads : List ReadPoint) where
       let b = name-bounds (p .name) (f .name-ok) in
       let len = length (outputBody p) in
       let t = output-back (outputsBase r n reads j l) j p f in
-      (simp (le-leb 1 len (b .0), le-leb len namePlaces (b .1), mod-one len), ap (λ (x : NameField). x .told) t, ap (λ (x : NameField). record { name = x .name }) t)
+      (simp (le-leb 1 len (b .0), le-leb len namePlaces (b .1), mod-one len), ap (λ (x : NameField). x .taken) t, ap (λ (x : NameField). record { name = x .name }) t)
 
   pub outputs-end : (j at : ℕ) (s : Set) → outputsFrom file 0 j at s ≡ goingOn at s
   unfolding outputsFrom

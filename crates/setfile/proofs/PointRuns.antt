@@ -15,19 +15,19 @@ use Rattle.scan.specs.declared.set.Set.{Set}
 use Rattle.scan.specs.Set.{mostConstraints}
 use Rattle.header.specs.declared.header.Header.{Header}
 use Rattle.header.specs.declared.header.Header.the-variants.{Refused as Stopped, Field}
-use Rattle.loader.specs.declared.point.Point.{Point}
-use Rattle.loader.specs.declared.point.Point.the-variants.{Refused as Denied, Good}
+use Rattle.header.specs.declared.numbers.Taken.{Taken}
+use Rattle.header.specs.declared.numbers.Taken.the-variants.{Refused as Denied, Good}
 use Rattle.loader.specs.declared.loader.Progress.the-variants.{At}
 use Rattle.header.specs.Bytes.{Bytes}
 use Rattle.header.specs.Header.{headerOf, bodyOf, fitsTable}
-use Rattle.loader.specs.Load.{Loading, goingOn, andThen, taken, fieldBy}
+use Rattle.loader.specs.Load.{Loading, goingOn, andThen, fieldDone, fieldBy}
 use Rattle.writer.specs.Write.{fieldOf, fieldsOf}
 use Rattle.header.proofs.HeaderLaws.{due-is}
 use Rattle.setfile.proofs.Fields.{body-back, field-back, found}
 use Rattle.setfile.proofs.FieldRuns.{Run, begun, Moved, Done, run-back, run-taken}
 
 -- A body says whether it gives a point of the set so far, and which.
-module _ {A : Type 0} (file : List ℕ) (R : Run A) (said : List ℕ → Set → ℕ → Point) (value : List ℕ → Set → ℕ → A) where
+module _ {A : Type 0} (file : List ℕ) (R : Run A) (said : List ℕ → Set → ℕ → Taken) (value : List ℕ → Set → ℕ → A) where
   -- the field of a point, by its header
   abbrev pub pointBy : ℕ → ℕ → List A → Header → Loading
   pointBy at i l = fieldBy file at (λ b. said b (R .base i l) i) (λ b. R .base (i + 1) (set l i (value b (R .base i l) i)))
@@ -36,7 +36,7 @@ module _ {A : Type 0} (file : List ℕ) (R : Run A) (said : List ℕ → Set →
 -- body that gives a point is that of a point that fits
 pub record PointRun (A : Type 0) (file : List ℕ) : Type 1 where
   pub run : Run A
-  pub said : List ℕ → Set → ℕ → Point
+  pub said : List ℕ → Set → ℕ → Taken
   pub value : List ℕ → Set → ℕ → A
   pub plain : eqb (run .tag) 4 ≡ false
   pub ends : (i at : ℕ) (s : Set) → run .from 0 i at s ≡ goingOn at s
@@ -66,7 +66,7 @@ module _ {A : Type 0} (file : List ℕ) (K : PointRun A file) where
       let bd : bodyOf (drop at file) len ≡ b = ap (λ (x : List ℕ). bodyOf x len) e ∙ body-back due b rest in
       K .opens left i at l
       ∙ ap (λ (x : Header). andThen (pointBy file (K .run) (K .said) (K .value) at i l x) (K .run .from left (i + 1))) hd
-      ∙ ap₂ (λ (t : Point) (x : A). andThen (taken at len t (K .run .base (i + 1) (set l i x))) (K .run .from left (i + 1)))
+      ∙ ap₂ (λ (t : Taken) (x : A). andThen (fieldDone at len t (K .run .base (i + 1) (set l i x))) (K .run .from left (i + 1)))
       (ap (λ (x : List ℕ). K .said x s i) bd ∙ g .1) (ap (λ (x : List ℕ). K .value x s i) bd ∙ g .2)
 
   -- a field that was taken is the one written for a point that fits
@@ -83,8 +83,8 @@ module _ {A : Type 0} (file : List ℕ) (K : PointRun A file) where
       next : ℕ → Set → Loading
       next = K .run .from left (i + 1)
 
-      by-point : (tag len : ℕ) → headerOf (drop at file) due 0 ≡ Field tag len → (t : Point) → K .said (bodyOf (drop at file) len) s i ≡ t
-          → andThen (taken at len t (K .run .base (i + 1) (set l i (K .value (bodyOf (drop at file) len) s i)))) next .progress ≡ At last → Moved file (K .run) left i at l
+      by-point : (tag len : ℕ) → headerOf (drop at file) due 0 ≡ Field tag len → (t : Taken) → K .said (bodyOf (drop at file) len) s i ≡ t
+          → andThen (fieldDone at len t (K .run .base (i + 1) (set l i (K .value (bodyOf (drop at file) len) s i)))) next .progress ≡ At last → Moved file (K .run) left i at l
       by-point tag len hd (Denied number) t u = let w : _≡_ {A = ℕ} 0 1 = cc in absurd (omega arith)
       by-point tag len hd Good t u =
           let f = found file at due 0 tag len bytes hd in
@@ -100,7 +100,7 @@ module _ {A : Type 0} (file : List ℕ) (K : PointRun A file) where
             on =
                 K .opens left i at l
                 ∙ ap (λ (x : Header). andThen (pointBy file (K .run) (K .said) (K .value) at i l x) next) hd
-                ∙ ap (λ (x : Point). andThen (taken at len x (K .run .base (i + 1) (set l i (K .value b s i)))) next) t;
+                ∙ ap (λ (x : Taken). andThen (fieldDone at len x (K .run .base (i + 1) (set l i (K .value b s i)))) next) t;
           }
 
       by-header : (x : Header) → headerOf (drop at file) due 0 ≡ x → andThen (pointBy file (K .run) (K .said) (K .value) at i l x) next .progress ≡ At last → Moved file (K .run) left i at l

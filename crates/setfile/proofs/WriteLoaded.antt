@@ -20,7 +20,7 @@ use Rattle.loader.specs.declared.loader.Progress.the-variants.{At, Refused}
 use Rattle.loader.specs.declared.loader.LoadAnswer.the-variants.{Loaded}
 use Rattle.header.specs.Bytes.{Bytes}
 use Rattle.header.specs.Header.{headerOf, bodyOf, fitsTable}
-use Rattle.loader.specs.Load.{Loading, goingOn, thenFrom, andThen, taken, fieldBy, ofCounts, goodIf, countsTold, countsMade, countsAt, readsFrom, outputsFrom, constraintsFrom}
+use Rattle.loader.specs.Load.{Loading, goingOn, thenFrom, andThen, fieldDone, fieldBy, ofCounts, goodIf, countsTold, countsMade, countsAt, readsFrom, outputsFrom, constraintsFrom}
 use Rattle.loader.specs.Load.{afterCounts, afterReads, afterOutputs, answerOf, loadFrom, loadOf}
 use Rattle.writer.specs.Write.{fieldOf, fieldsOf, readBody, outputBody, literalBody, writeOf}
 use Rattle.header.proofs.HeaderLaws.{table-bounds, due-is}
@@ -54,7 +54,7 @@ unfolding countsAt
 counted file bytes at e = by-header (headerOf file 1 0) refl e
   where
     by-test : (tag len : ℕ) → headerOf file 1 0 ≡ Field tag len → (t : Bool) → every (countTests (getD (bodyOf file len) 0 0) (getD (bodyOf file len) 1 0) 0) ≡ t
-        → taken 0 len (goodIf t 5) (countsMade (bodyOf file len)) .progress ≡ At at → Counted file
+        → fieldDone 0 len (goodIf t 5) (countsMade (bodyOf file len)) .progress ≡ At at → Counted file
     by-test tag len hd false t u = let z : _≡_ {A = ℕ} 0 1 = cc in absurd (omega arith)
     by-test tag len hd true t u =
         let f = found file 0 1 0 tag len bytes hd in
@@ -70,7 +70,7 @@ counted file bytes at e = by-header (headerOf file 1 0) refl e
           outputs = n;
           passed = t;
           loaded =
-              ap (fieldBy file 0 countsTold countsMade) hd ∙ ap (λ (b : Bool). taken 0 len (goodIf b 5) (ofCounts r n)) t
+              ap (fieldBy file 0 countsTold countsMade) hd ∙ ap (λ (b : Bool). fieldDone 0 len (goodIf b 5) (ofCounts r n)) t
               ∙ ap (λ (x : ℕ). goingOn (3 + x) (ofCounts r n)) two;
           written = whole ∙ ap (λ (x : ℕ). fieldOf 1 (r ∷ n ∷ []) ++ drop (0 + 3 + x) file) two;
         }

@@ -16,8 +16,8 @@ use Rattle.scan.specs.Shape.{isSensor}
 use Rattle.header.specs.declared.header.Header.{Header}
 use Rattle.header.specs.declared.header.Header.the-variants.{Refused as Stopped, Field}
 use Rattle.header.specs.Header.{bodyOf}
-use Rattle.loader.specs.declared.point.Point.{Point}
-use Rattle.loader.specs.declared.point.Point.the-variants.{Refused as Denied, Good}
+use Rattle.header.specs.declared.numbers.Taken.{Taken}
+use Rattle.header.specs.declared.numbers.Taken.the-variants.{Refused as Denied, Good}
 use Rattle.loader.specs.declared.point.NameField.{NameField}
 use Rattle.loader.specs.declared.point.ReadField.{ReadField}
 use Rattle.loader.specs.declared.step.ReadStep.{ReadStep}
@@ -39,7 +39,7 @@ Pasts pasts reads = pasts ≡ map (λ (p : ReadPoint). not (isSensor (p .kind)))
 -- ---- steps
 
 -- the place behind a body, or its refusal
-abbrev pub placeBehind : ℕ → ℕ → Point → Progress
+abbrev pub placeBehind : ℕ → ℕ → Taken → Progress
 placeBehind at behind (Denied number) = Refused number at
 placeBehind at behind Good = At behind
 
@@ -51,7 +51,7 @@ noRead number at = record { progress = Refused number at; read = zeroRead }
 abbrev pub readStep : List ℕ → ℕ → (List ℕ → ReadField) → Header → ReadStep
 readStep s at got (Stopped number) = noRead number at
 readStep s at got (Field tag len) =
-    record { progress = placeBehind at (at + 3 + len) (got (bodyOf (drop at s) len) .told); read = got (bodyOf (drop at s) len) .read }
+    record { progress = placeBehind at (at + 3 + len) (got (bodyOf (drop at s) len) .taken); read = got (bodyOf (drop at s) len) .read }
 
 -- a refused name
 abbrev pub noName : ℕ → ℕ → NameStep
@@ -61,7 +61,7 @@ noName number at = record { progress = Refused number at; name = zeroName }
 abbrev pub nameStep : List ℕ → ℕ → (List ℕ → NameField) → Header → NameStep
 nameStep s at got (Stopped number) = noName number at
 nameStep s at got (Field tag len) =
-    record { progress = placeBehind at (at + 3 + len) (got (bodyOf (drop at s) len) .told); name = got (bodyOf (drop at s) len) .name }
+    record { progress = placeBehind at (at + 3 + len) (got (bodyOf (drop at s) len) .taken); name = got (bodyOf (drop at s) len) .name }
 
 -- ---- the set so far
 

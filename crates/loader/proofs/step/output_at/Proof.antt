@@ -88,7 +88,7 @@ returns-2 c =
     let k = g .before .before in
     let f = k .before .before .before in
     let a = f .before .before .args in
-    field-step (λ (x : NameField). x .told) (λ p x. record { progress = p; name = x .name }) (now (a .s)) (a .at) (f .front-at .result .at) (k .before .header2 .given .0 .1 .0) (got f)
+    field-step (λ (x : NameField). x .taken) (λ p x. record { progress = p; name = x .name }) (now (a .s)) (a .at) (f .front-at .result .at) (k .before .header2 .given .0 .1 .0) (got f)
     (g .name-of .result) (c .place-behind .result) (place f) (g .name-of .ensures) (c .place-behind .ensures)
     ∙ sym (ap (nameStep (now (a .s)) (a .at) (got f)) (front-there (now (a .s)) (a .at) 3 0 (f .front-at .result) (f .front-at .ensures) ∙ k .before .header2 .given .1))
 

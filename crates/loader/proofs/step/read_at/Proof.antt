@@ -95,7 +95,7 @@ returns-2 c =
     let k = g .before .before in
     let f = k .before .before .before in
     let a = f .before .before .args in
-    field-step (λ (x : ReadField). x .told) (λ p x. record { progress = p; read = x .read }) (now (a .s)) (a .at) (f .front-at .result .at) (k .before .header2 .given .0 .1 .0) (got f)
+    field-step (λ (x : ReadField). x .taken) (λ p x. record { progress = p; read = x .read }) (now (a .s)) (a .at) (f .front-at .result .at) (k .before .header2 .given .0 .1 .0) (got f)
     (g .read-field .result) (c .place-behind .result) (place f) (g .read-field .ensures) (c .place-behind .ensures)
     ∙ sym (ap (readStep (now (a .s)) (a .at) (got f)) (front-there (now (a .s)) (a .at) 2 0 (f .front-at .result) (f .front-at .ensures) ∙ k .before .header2 .given .1))
 
