@@ -8,9 +8,9 @@ use Prim.Native.Nat.{ℕ, zero, suc, _+_, _≤_, _<_}
 use native.Mathlib.Omega.{arith}
 use lib.Dec.{ltb, leb, eqb}
 use lib.ListN.{length, getD, drop, length-drop, length-take}
-use borrow.Author.Tests.{not-true, not-false, eqb-true, ltb-true, ltb-false, lt-leb, le-leb, leb-true}
+use borrow.Author.Tests.{not-true, not-false, eqb-true, ltb-true, ltb-false, lt-leb, le-leb}
 use Rattle.words.specs.Loop.{every}
-use Rattle.words.proofs.BoolLaws.{by-test, clash, and-true, or-true, or-false}
+use Rattle.words.proofs.BoolLaws.{by-test, clash, or-false}
 use Rattle.scan.specs.declared.set.Kind.{Kind}
 use Rattle.scan.specs.declared.set.Kind.the-variants.{Sensor, PastOutput, PastSensor}
 use Rattle.scan.specs.declared.set.Constraint.{Constraint}

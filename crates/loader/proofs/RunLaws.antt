@@ -22,8 +22,7 @@ use Rattle.literal.specs.declared.literal.Literals.{Literals}
 use Rattle.literal.specs.Literal.{literalsOf}
 use Rattle.loader.specs.declared.loader.Progress.{Progress}
 use Rattle.loader.specs.declared.loader.Progress.the-variants.{At, Refused}
-use Rattle.loader.specs.declared.loader.Loaded.{Loaded}
-use Rattle.loader.specs.Load.{Loading, refusal, goingOn, andThen, fieldDone, fieldBy, ofCounts, goodIf, countsTold, countsMade, countsAt, readAt, readsFrom, outputAt, outputsFrom, withConstraint, constraintGiven, constraintAt, endAt, constraintsGiven, constraintsFrom, answered}
+use Rattle.loader.specs.Load.{Loading, refusal, goingOn, andThen, fieldDone, fieldBy, ofCounts, goodIf, countsTold, countsMade, countsAt, readAt, readsFrom, outputAt, outputsFrom, withConstraint, constraintGiven, constraintAt, constraintsGiven, constraintsFrom}
 use Rattle.loader.specs.way.Load.{reached, endPlace}
 use Rattle.loader.proofs.LoadLaws.{body-at}
 

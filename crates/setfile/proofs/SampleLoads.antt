@@ -17,7 +17,8 @@ use Rattle.setfile.specs.SampleFile.{fileP}
 
 -- The file loads to P.
 pub P-loads : loadOf fileP ≡ record { answer = Loaded; set = P }
-unfolding all firstFrom first zeroSet nameByte allNameBytes spelling sameName readNamed firstRead outputNamed firstOutput isUsed countTests rawOf headerOf narrows withLiteral literalsFrom countsAt nameField kindOf readField readOf readAt readsFrom outputOf outputAt outputsFrom constraintAt constraintsFrom loadFrom loadOf
+unfolding all firstFrom first zeroSet nameByte allNameBytes spelling sameName readNamed firstRead outputNamed firstOutput isUsed
+    countTests rawOf headerOf narrows withLiteral literalsFrom countsAt nameField kindOf readField readOf readAt readsFrom outputOf outputAt outputsFrom constraintAt constraintsFrom loadFrom loadOf
 P-loads = refl
 
 -- P's file is the file.

@@ -1,8 +1,8 @@
 -- `header::header::field_at` meets its contract: at each `return` the tests that led there say which case of `rawOf` holds. Assumes nothing.
 use mathlib.Core.Path.{_≡_, sym, _∙_, ap₂}
-use Prim.Native.Nat.{_+_, _*_, _≤_}
+use Prim.Native.Nat.{_+_, _*_}
 use native.Mathlib.Omega.{arith}
-use lib.ListN.{length, drop, getD, length-drop}
+use lib.ListN.{drop, length-drop}
 use denote.Ref.{now}
 use Rattle.header.specs.Header.{bodyLength}
 use Rattle.header.specs.declared.header.RawField.the-variants.{Field}
