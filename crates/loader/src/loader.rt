@@ -28,7 +28,7 @@ ghost use Prim.Native.Nat.{_+_, _≤_};
 ghost use lib.ListN.{length, replicate};
 ghost use Rattle.scan.specs.declared.set.ReadPoint.{ReadPoint};
 ghost use Rattle.scan.specs.declared.set.OutputPoint.{OutputPoint};
-ghost use Rattle.scan.specs.Set.{mostReads, mostOutputs, zeroName, withReads, withOutputs};
+ghost use Rattle.scan.specs.Set.{mostReads, mostOutputs, mostConstraints, zeroName, zeroConstraint, withReads, withOutputs};
 ghost use Rattle.shape.specs.way.Names.{ReadNames};
 ghost use Rattle.loader.specs.Load.{refusal, ofCounts, countsAt, readsFrom, outputsFrom, afterOutputs, afterReads, afterCounts, answered, loadOf};
 ghost use Rattle.loader.specs.way.Load.{reached, endPlace, pointsSet, wholeSet};
@@ -119,10 +119,8 @@ fn reads_at<'a>(
     ensures { λ l. ⌜ (reached (l .progress) (withReads (ofCounts r n) (l .reads)) ≡ readsFrom (now (s .entry)) r 0 at (ofCounts r n)) × ReadNames (now (names .exit)) (l .reads) ⌝ }
 {
     let none = [0u8; NAME_PLACES];
-    let zero = ReadPoint {
-        kind: Kind::Sensor,
-        name: none,
-    };
+    let kind = Kind::Sensor;
+    let zero = ReadPoint { kind, name: none };
     let outputs = [none; MOST_OUTPUTS];
     let mut reads = [zero; MOST_READS];
     let mut pasts = [false; MOST_READS];
@@ -145,10 +143,8 @@ fn reads_at<'a>(
         }
         i = i + 1;
     }
-    Reads {
-        progress: Progress::At(next),
-        reads,
-    }
+    let progress = Progress::At(next);
+    Reads { progress, reads }
 }
 
 // n outputs from `at` on, behind r read points of these names.
@@ -199,10 +195,8 @@ fn end_at(s: &[u8], at: usize) -> Progress
     Progress::At(at + 3)
 }
 
-// Constraints from `at` up to the end, for a set of r read points and n outputs.
-fn constraints_at(s: &[u8], at: usize, r: usize, n: usize) -> Constraints
-    requires { ⌜ n ≤ mostOutputs ⌝ }
-    ensures { λ l. ⌜ ((reads : List ReadPoint) (outputs : List OutputPoint) → reached (l .progress) (wholeSet r n (l .m) reads outputs (l .constraints)) ≡ afterOutputs (now (s .entry)) at (pointsSet r n reads outputs)) ⌝ }
+fn zero_constraints() -> [Constraint; MOST_CONSTRAINTS]
+    ensures { λ l. ⌜ l ≡ replicate mostConstraints zeroConstraint ⌝ }
 {
     let ranks = [0u8; MOST_OUTPUTS];
     let zero = Constraint {
@@ -212,7 +206,26 @@ fn constraints_at(s: &[u8], at: usize, r: usize, n: usize) -> Constraints
         out_negated: 0,
         ranks,
     };
-    let mut constraints = [zero; MOST_CONSTRAINTS];
+    [zero; MOST_CONSTRAINTS]
+}
+
+// Where constraints end: how far they bring the load, and the m that there are.
+fn ended(progress: Progress, m: usize, constraints: [Constraint; MOST_CONSTRAINTS]) -> Constraints
+    ensures { λ l. ⌜ l ≡ record { progress = progress; m = m; constraints = constraints } ⌝ }
+{
+    Constraints {
+        progress,
+        m,
+        constraints,
+    }
+}
+
+// Constraints from `at` up to the end, for a set of r read points and n outputs.
+fn constraints_at(s: &[u8], at: usize, r: usize, n: usize) -> Constraints
+    requires { ⌜ n ≤ mostOutputs ⌝ }
+    ensures { λ l. ⌜ ((reads : List ReadPoint) (outputs : List OutputPoint) → reached (l .progress) (wholeSet r n (l .m) reads outputs (l .constraints)) ≡ afterOutputs (now (s .entry)) at (pointsSet r n reads outputs)) ⌝ }
+{
+    let mut constraints = zero_constraints();
     let mut next = at;
     let mut m: usize = 0;
     loop {
@@ -221,29 +234,17 @@ fn constraints_at(s: &[u8], at: usize, r: usize, n: usize) -> Constraints
         let here = front.at;
         match header {
             Header::Refused(number) => {
-                return Constraints {
-                    progress: Progress::Refused(number, here),
-                    m,
-                    constraints,
-                };
+                return ended(Progress::Refused(number, here), m, constraints);
             }
             Header::Field(tag, len) => {
                 if tag == TAG_END {
-                    return Constraints {
-                        progress: end_at(s, here),
-                        m,
-                        constraints,
-                    };
+                    return ended(end_at(s, here), m, constraints);
                 }
                 let f = literals_of(&s[here + 3..here + 3 + len], r, n);
                 let taken = f.taken;
                 match taken {
                     Taken::Refused(number) => {
-                        return Constraints {
-                            progress: Progress::Refused(number, here),
-                            m,
-                            constraints,
-                        };
+                        return ended(Progress::Refused(number, here), m, constraints);
                     }
                     Taken::Good => {
                         let made = f.made;

@@ -28,9 +28,17 @@ Inv-loop s at r n constraints₀ next₀ m₀ constraints next m =
 abbrev μ-loop : tie.MeasureT-loop
 μ-loop s at r n constraints₀ next₀ m₀ constraints next m = suc mostConstraints - m
 
+zero-constraints-requires : tie.Need-zero-constraints-requires Inv-loop μ-loop
+zero-constraints-requires c κs = search needs
+
 loop-holds : tie.Need-loop-holds Inv-loop μ-loop
 unfolding zeroSet
-loop-holds c = (search needs, λ reads outputs. refl)
+loop-holds c =
+    let a = c .before .before .args in
+    let none = c .zero-constraints .ensures in (
+      search needs,
+      λ reads outputs. ap (λ l. constraintsFrom (now (a .s)) (suc mostConstraints) (a .at) (wholeSet (a .r) (a .n) 0 reads outputs l)) (sym none),
+    )
 
 front-at-requires : tie.Need-front-at-requires Inv-loop μ-loop
 front-at-requires c κs = search needs
@@ -41,53 +49,61 @@ enum-known-header c = search needs
 -- the field is at the loop's place, its header is the one there, and what the loop has come to holds of it
 module _ (c : tie.After-front-at Inv-loop μ-loop) where
   place : c .front-at .result .at ≡ c .before .loop .next
-  place = let l = c .before .loop in front-place (now (c .before .before .before .args .s)) (l .next) 4 (l .m) (c .front-at .result) (c .front-at .ensures)
+  place = let l = c .before .loop in front-place (now (c .before .before .before .before .args .s)) (l .next) 4 (l .m) (c .front-at .result) (c .front-at .ensures)
 
-  header : headerOf (drop (c .front-at .result .at) (now (c .before .before .before .args .s))) 4 (c .before .loop .m) ≡ c .front-at .result .header
-  header = let l = c .before .loop in front-header (now (c .before .before .before .args .s)) (l .next) 4 (l .m) (c .front-at .result) (c .front-at .ensures)
+  header : headerOf (drop (c .front-at .result .at) (now (c .before .before .before .before .args .s))) 4 (c .before .loop .m) ≡ c .front-at .result .header
+  header = let l = c .before .loop in front-header (now (c .before .before .before .before .args .s)) (l .next) 4 (l .m) (c .front-at .result) (c .front-at .ensures)
 
   so-far : (reads : List ReadPoint) (outputs : List OutputPoint) → let l = c .before .loop in
-      let a = c .before .before .before .args in
+      let a = c .before .before .before .before .args in
       constraintsFrom (now (a .s)) (suc mostConstraints) (a .at) (pointsSet (a .r) (a .n) reads outputs)
       ≡ constraintsFrom (now (a .s)) (suc mostConstraints - l .m) (c .front-at .result .at) (wholeSet (a .r) (a .n) (l .m) reads outputs (l .constraints))
   so-far reads outputs =
       let l = c .before .loop in
-      let a = c .before .before .before .args in
+      let a = c .before .before .before .before .args in
       l .inv .1 reads outputs
       ∙ ap (λ (x : ℕ). constraintsFrom (now (a .s)) (suc mostConstraints - l .m) x (wholeSet (a .r) (a .n) (l .m) reads outputs (l .constraints))) (sym place)
 
+ended-requires : tie.Need-ended-requires Inv-loop μ-loop
+ended-requires c κs = search needs
+
 returns : tie.Need-returns Inv-loop μ-loop
 returns c reads outputs =
-    let k = c .before in
+    let k = c .before .before in
     let h = k .before .before in
     let l = h .before .loop in
-    let a = h .before .before .before .args in
-    constraints-stopped (now (a .s)) _ (h .front-at .result .at) (wholeSet (a .r) (a .n) (l .m) reads outputs (l .constraints)) (l .inv .0) (so-far h reads outputs) _ (header h ∙ k .header .given .1)
+    let a = h .before .before .before .before .args in
+    ap (λ x. reached (x .progress) (wholeSet (a .r) (a .n) (x .m) reads outputs (x .constraints))) (c .ended .ensures)
+    ∙ constraints-stopped (now (a .s)) _ (h .front-at .result .at) (wholeSet (a .r) (a .n) (l .m) reads outputs (l .constraints)) (l .inv .0) (so-far h reads outputs) _ (header h ∙ k .header .given .1)
 
 enum-known-header-2 : tie.Need-enum-known-header-2 Inv-loop μ-loop
 enum-known-header-2 c = search needs
 
 -- what the header tells
 here : (c : tie.After-known-told2 Inv-loop μ-loop) → let f = c .before .before .before in
-    headerOf (drop (f .front-at .result .at) (now (f .before .before .before .args .s))) 4 (f .before .loop .m) ≡ Field (c .before .header2 .given .0 .0) (c .before .header2 .given .0 .1 .0)
+    headerOf (drop (f .front-at .result .at) (now (f .before .before .before .before .args .s))) 4 (f .before .loop .m) ≡ Field (c .before .header2 .given .0 .0) (c .before .header2 .given .0 .1 .0)
 here c = header (c .before .before .before) ∙ c .before .header2 .given .1
 
 whole : (c : tie.After-known-told2 Inv-loop μ-loop) → let f = c .before .before .before in
-    f .front-at .result .at + 3 + c .before .header2 .given .0 .1 .0 ≤ length (now (f .before .before .before .args .s))
+    f .front-at .result .at + 3 + c .before .header2 .given .0 .1 .0 ≤ length (now (f .before .before .before .before .args .s))
 whole c = field-within _ _ 4 _ _ _ (here c)
 
 end-at-requires : tie.Need-end-at-requires Inv-loop μ-loop
 end-at-requires c κs = omega (arith, whole (c .before))
 
+ended-requires-2 : tie.Need-ended-requires-2 Inv-loop μ-loop
+ended-requires-2 c κs = search needs
+
 returns-2 : tie.Need-returns-2 Inv-loop μ-loop
 returns-2 c reads outputs =
-    let t = c .before in
+    let e = c .before in
+    let t = e .before in
     let k = t .before in
     let h = k .before .before .before in
     let l = h .before .loop in
-    let a = h .before .before .before .args in
+    let a = h .before .before .before .before .args in
     let s = wholeSet (a .r) (a .n) (l .m) reads outputs (l .constraints) in
-    ap (λ p. reached p s) (c .end-at .ensures)
+    ap (λ x. reached (x .progress) (wholeSet (a .r) (a .n) (x .m) reads outputs (x .constraints))) (c .ended2 .ensures) ∙ ap (λ p. reached p s) (e .end-at .ensures)
     ∙ constraints-end (now (a .s)) _ (h .front-at .result .at) s (l .inv .0) (so-far h reads outputs) _ _ (here k) (t .if1 .taken)
 
 -- what the header of a constraint tells
@@ -95,13 +111,13 @@ few : (c : tie.Else1 Inv-loop μ-loop) → c .before .before .before .before .be
 few c = constraint-length _ _ _ _ (c .if1 .left) (here (c .before)) .2
 
 add-literals-of : tie.Need-add-literals-of Inv-loop μ-loop
-add-literals-of c = omega (arith, whole (c .before), c .before .before .before .before .before .before .before .good)
+add-literals-of c = omega (arith, whole (c .before), c .before .before .before .before .before .before .before .before .good)
 
 add-literals-of-2 : tie.Need-add-literals-of-2 Inv-loop μ-loop
-add-literals-of-2 c = omega (arith, whole (c .before), c .before .before .before .before .before .before .before .good)
+add-literals-of-2 c = omega (arith, whole (c .before), c .before .before .before .before .before .before .before .before .good)
 
 add-literals-of-3 : tie.Need-add-literals-of-3 Inv-loop μ-loop
-add-literals-of-3 c = omega (arith, whole (c .before), c .before .before .before .before .before .before .before .good)
+add-literals-of-3 c = omega (arith, whole (c .before), c .before .before .before .before .before .before .before .before .good)
 
 sub-literals-of : tie.Need-sub-literals-of Inv-loop μ-loop
 sub-literals-of c = search needs
@@ -118,16 +134,21 @@ literals-of-requires c κs = search needs
 enum-known-taken : tie.Need-enum-known-taken Inv-loop μ-loop
 enum-known-taken c = search needs
 
+ended-requires-3 : tie.Need-ended-requires-3 Inv-loop μ-loop
+ended-requires-3 c κs = search needs
+
 returns-3 : tie.Need-returns-3 Inv-loop μ-loop
 returns-3 c reads outputs =
-    let f = c .before .before .before in
+    let t = c .before .before in
+    let f = t .before .before in
     let e = f .before .before in
     let k = e .before in
     let h = k .before .before .before in
     let l = h .before .loop in
-    let a = h .before .before .before .args in
-    sym (constraints-by (now (a .s)) _ (h .front-at .result .at) (wholeSet (a .r) (a .n) (l .m) reads outputs (l .constraints)) (l .inv .0) (so-far h reads outputs) _ _ (here k) (e .if1 .left)
-    (f .literals-of .result) (h .before .before .before .pre) (f .literals-of .ensures) _ (c .before .taken .given .1))
+    let a = h .before .before .before .before .args in
+    ap (λ x. reached (x .progress) (wholeSet (a .r) (a .n) (x .m) reads outputs (x .constraints))) (c .ended3 .ensures)
+    ∙ sym (constraints-by (now (a .s)) _ (h .front-at .result .at) (wholeSet (a .r) (a .n) (l .m) reads outputs (l .constraints)) (l .inv .0) (so-far h reads outputs) _ _ (here k) (e .if1 .left)
+    (f .literals-of .result) (h .before .before .before .before .pre) (f .literals-of .ensures) _ (t .taken .given .1))
 
 enum-told : tie.Need-enum-told Inv-loop μ-loop
 enum-told c = search needs
@@ -142,10 +163,10 @@ add-m : tie.Need-add-m Inv-loop μ-loop
 add-m c = omega (arith, few (c .before .before .before .before .before))
 
 add-next : tie.Need-add-next Inv-loop μ-loop
-add-next c = omega (arith, whole (c .before .before .before .before .before .before), c .before .before .before .before .before .before .before .before .before .before .before .before .good)
+add-next c = omega (arith, whole (c .before .before .before .before .before .before), c .before .before .before .before .before .before .before .before .before .before .before .before .before .good)
 
 add-next-2 : tie.Need-add-next-2 Inv-loop μ-loop
-add-next-2 c = omega (arith, whole (c .before .before .before .before .before .before), c .before .before .before .before .before .before .before .before .before .before .before .before .good)
+add-next-2 c = omega (arith, whole (c .before .before .before .before .before .before), c .before .before .before .before .before .before .before .before .before .before .before .before .before .good)
 
 loop-less : tie.Need-loop-less Inv-loop μ-loop
 loop-less c = omega (arith, few (c .before .before .before .before .before))
@@ -157,13 +178,13 @@ loop-again c =
     let k = e .before in
     let h = k .before .before .before in
     let l = h .before .loop in
-    let a = h .before .before .before .args in (
+    let a = h .before .before .before .before .args in (
       omega (arith, few e),
       λ reads outputs.
           let s = wholeSet (a .r) (a .n) (l .m) reads outputs (l .constraints) in
           let left : mostConstraints - l .m ≡ suc mostConstraints - (l .m + 1) = omega arith in
           constraints-by (now (a .s)) _ (h .front-at .result .at) s (l .inv .0) (so-far h reads outputs) _ _ (here k) (e .if1 .left)
-          (f .literals-of .result) (h .before .before .before .pre) (f .literals-of .ensures) _ (c .before .enum-told .given .1)
+          (f .literals-of .result) (h .before .before .before .before .pre) (f .literals-of .ensures) _ (c .before .enum-told .given .1)
           ∙ ap (λ (x : ℕ). constraintsFrom (now (a .s)) x (h .front-at .result .at + 3 + k .before .header2 .given .0 .1 .0) (withConstraint s (f .literals-of .result .made))) left,
     )
 
@@ -173,12 +194,15 @@ constraints-at-spec =
     (tie.spec
     Inv-loop
     μ-loop
+    zero-constraints-requires
     loop-holds
     front-at-requires
     enum-known-header
+    ended-requires
     returns
     enum-known-header-2
     end-at-requires
+    ended-requires-2
     returns-2
     add-literals-of
     add-literals-of-2
@@ -188,6 +212,7 @@ constraints-at-spec =
     part-literals-of-end
     literals-of-requires
     enum-known-taken
+    ended-requires-3
     returns-3
     enum-told
     mul-constraints
