@@ -19,7 +19,7 @@ ghost use Rattle.scan.specs.Set.{mostReads, mostOutputs};
 ghost use Rattle.header.specs.Header.{headerOf};
 ghost use Rattle.shape.specs.way.Names.{nameUsed};
 ghost use Rattle.loader.specs.Load.{nameField, readField};
-ghost use Rattle.loader.specs.way.Load.{notPast, placeBehind, noRead, readStep, noName, nameStep};
+ghost use Rattle.loader.specs.way.Load.{notPast, placeBehind, refusedRead, readStep, refusedName, nameStep};
 
 // How far the field brings the load, and what its body gives where it is taken.
 pub struct ReadStep {
@@ -43,7 +43,7 @@ fn place_behind(at: usize, behind: usize, taken: Taken) -> Progress
 }
 
 fn refused_read(number: u8, at: usize) -> ReadStep
-    ensures { λ f. ⌜ f ≡ noRead number at ⌝ }
+    ensures { λ f. ⌜ f ≡ refusedRead number at ⌝ }
 {
     let name = [0u8; NAME_PLACES];
     let read = ReadPoint {
@@ -88,7 +88,7 @@ pub fn read_at<'a>(
 }
 
 fn refused_name(number: u8, at: usize) -> NameStep
-    ensures { λ f. ⌜ f ≡ noName number at ⌝ }
+    ensures { λ f. ⌜ f ≡ refusedName number at ⌝ }
 {
     let name = [0u8; NAME_PLACES];
     NameStep {

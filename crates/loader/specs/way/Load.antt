@@ -11,7 +11,7 @@ use Rattle.scan.specs.declared.set.ReadPoint.{ReadPoint}
 use Rattle.scan.specs.declared.set.OutputPoint.{OutputPoint}
 use Rattle.scan.specs.declared.set.Constraint.{Constraint}
 use Rattle.scan.specs.declared.set.Set.{Set}
-use Rattle.scan.specs.Set.{zeroName, zeroRead, withReads, withOutputs}
+use Rattle.scan.specs.Set.{zeroName, zeroRead, withCounts, withReads, withOutputs, withConstraints}
 use Rattle.scan.specs.Shape.{isSensor}
 use Rattle.header.specs.declared.header.Header.{Header}
 use Rattle.header.specs.declared.header.Header.the-variants.{Refused as Stopped, Field}
@@ -44,22 +44,22 @@ placeBehind at behind (Denied number) = Refused number at
 placeBehind at behind Good = At behind
 
 -- a refused read point
-abbrev pub noRead : ℕ → ℕ → ReadStep
-noRead number at = record { progress = Refused number at; read = zeroRead }
+abbrev pub refusedRead : ℕ → ℕ → ReadStep
+refusedRead number at = record { progress = Refused number at; read = zeroRead }
 
 -- the step over a read point's field, by its header
 abbrev pub readStep : List ℕ → ℕ → (List ℕ → ReadField) → Header → ReadStep
-readStep s at got (Stopped number) = noRead number at
+readStep s at got (Stopped number) = refusedRead number at
 readStep s at got (Field tag len) =
     record { progress = placeBehind at (at + 3 + len) (got (bodyOf (drop at s) len) .taken); read = got (bodyOf (drop at s) len) .read }
 
 -- a refused name
-abbrev pub noName : ℕ → ℕ → NameStep
-noName number at = record { progress = Refused number at; name = zeroName }
+abbrev pub refusedName : ℕ → ℕ → NameStep
+refusedName number at = record { progress = Refused number at; name = zeroName }
 
 -- the step over an output's field
 abbrev pub nameStep : List ℕ → ℕ → (List ℕ → NameField) → Header → NameStep
-nameStep s at got (Stopped number) = noName number at
+nameStep s at got (Stopped number) = refusedName number at
 nameStep s at got (Field tag len) =
     record { progress = placeBehind at (at + 3 + len) (got (bodyOf (drop at s) len) .taken); name = got (bodyOf (drop at s) len) .name }
 
@@ -80,5 +80,4 @@ pointsSet r n reads outputs = withOutputs (withReads (ofCounts r n) reads) outpu
 
 -- the set with m constraints, too
 abbrev pub wholeSet : ℕ → ℕ → ℕ → List ReadPoint → List OutputPoint → List Constraint → Set
-wholeSet r n m reads outputs constraints =
-    record { r = r; n = n; m = m; reads = reads; outputs = outputs; constraints = constraints }
+wholeSet r n m reads outputs constraints = withCounts (withConstraints (pointsSet r n reads outputs) constraints) r n m

@@ -11,7 +11,7 @@ use Rattle.header.specs.Header.{headerOf}
 use Rattle.shape.specs.way.Names.{nameUsed}
 use Rattle.loader.specs.declared.point.NameField.{NameField}
 use Rattle.loader.specs.Load.{nameField}
-use Rattle.loader.specs.way.Load.{noName, nameStep}
+use Rattle.loader.specs.way.Load.{refusedName, nameStep}
 use Rattle.header.proofs.HeaderLaws.{field-within, front-place, front-there, front-header}
 use Rattle.loader.proofs.WayLaws.{field-step}
 use borrow.Author.Needs.{needs}
@@ -79,7 +79,7 @@ returns c =
     let k = c .before .before in
     let f = k .before .before in
     let a = f .before .before .args in
-    c .refused-name .ensures ∙ ap (noName (k .header .given .0 .0)) (place f)
+    c .refused-name .ensures ∙ ap (refusedName (k .header .given .0 .0)) (place f)
     ∙ sym (ap (nameStep (now (a .s)) (a .at) (got f)) (front-there (now (a .s)) (a .at) 3 0 (f .front-at .result) (f .front-at .ensures) ∙ k .header .given .1))
 
 returns-2 : tie.Need-returns-2

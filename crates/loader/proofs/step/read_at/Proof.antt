@@ -11,7 +11,7 @@ use Rattle.header.specs.Header.{headerOf}
 use Rattle.shape.specs.way.Names.{nameUsed}
 use Rattle.loader.specs.declared.point.ReadField.{ReadField}
 use Rattle.loader.specs.Load.{readField}
-use Rattle.loader.specs.way.Load.{notPast, noRead, readStep}
+use Rattle.loader.specs.way.Load.{notPast, refusedRead, readStep}
 use Rattle.header.proofs.HeaderLaws.{field-within, front-place, front-there, front-header, read-length}
 use Rattle.loader.proofs.LoadLaws.{body-long}
 use Rattle.loader.proofs.WayLaws.{field-step}
@@ -86,7 +86,7 @@ returns c =
     let k = c .before .before in
     let f = k .before .before in
     let a = f .before .before .args in
-    c .refused-read .ensures ∙ ap (noRead (k .header .given .0 .0)) (place f)
+    c .refused-read .ensures ∙ ap (refusedRead (k .header .given .0 .0)) (place f)
     ∙ sym (ap (readStep (now (a .s)) (a .at) (got f)) (front-there (now (a .s)) (a .at) 2 0 (f .front-at .result) (f .front-at .ensures) ∙ k .header .given .1))
 
 returns-2 : tie.Need-returns-2
