@@ -1,4 +1,4 @@
-// When a set is well formed: when some file loads to it.
+// When a set is well formed: every part up to the counts is right, and every place beyond them is zero.
 use super::names::first_of;
 use super::names::is_name;
 use super::names::is_zero_name;
