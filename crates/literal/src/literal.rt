@@ -28,9 +28,10 @@ pub struct Literals {
     pub made: Constraint,
 }
 
-// The bits of a word for the literals of one sign, and what the words of so many low bits are below.
+// The bits of a word for the literals of one sign: no fewer than the places of literals.
 const SIGN_BITS: usize = 32;
 
+// A mask of read points is below the first, a mask of outputs below the second.
 const READS_END: u64 = 1 << MOST_READS;
 
 const OUTPUTS_END: u64 = 1 << MOST_OUTPUTS;

@@ -1,4 +1,4 @@
--- Literals and their two bytes: what bytes say, and the bytes of what is said. Nothing else here or above knows how many bytes a literal has.
+-- Literals and their two bytes: what bytes say, and the bytes of what is said. The laws of literals in the other files are over what is said.
 -- Assumes nothing.
 use mathlib.Core.Path.{_≡_, refl, sym, _∙_, ap, ap₂}
 use mathlib.Core.Bool.{Bool, true, false, cond}

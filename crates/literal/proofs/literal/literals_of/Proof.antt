@@ -1,10 +1,10 @@
 -- `literal::literal::literals_of` meets its contract. The loop's invariant: the literals from place i on, added to the constraint so far, give what the whole body gives. Assumes nothing.
 use borrow.Author.Needs.{needs}
 use borrow.Author.Tests.{le-leb, lt-leb, not-true, not-false}
-use mathlib.Core.Bool.{true}
-use mathlib.Core.List.{_∷_}
+use mathlib.Core.Bool.{true, cond}
+use mathlib.Core.List.{List, _∷_}
 use mathlib.Core.Path.{_≡_, refl, sym, ap, subst, _∙_}
-use Prim.Native.Nat.{_+_, _-_, _≤_, _<_, min}
+use Prim.Native.Nat.{ℕ, _+_, _-_, _≤_, _<_, min}
 use native.Mathlib.Omega.{arith}
 use lib.ListN.{length, drop, set}
 use denote.Ref.{now}
@@ -40,14 +40,16 @@ refused-literals-requires : tie.Need-refused-literals-requires Inv-loop μ-loop
 refused-literals-requires c κs = search needs
 
 -- where the loop stands, the whole body's literals are those of n outputs, or of mostOutputs where n is more
-whole : (c : tie.At-loop Inv-loop μ-loop) → literalsOf (c .before .before .before .args .r) (c .before .least .result) (now (c .before .before .before .args .body))
-    ≡ literalsOf (c .before .before .before .args .r) (min (c .before .before .before .args .n) mostOutputs) (now (c .before .before .before .args .body))
-whole c = ap (λ k. literalsOf (c .before .before .before .args .r) k (now (c .before .before .before .args .body))) (c .before .least .ensures)
+whole : (c : tie.At-loop Inv-loop μ-loop) → let a = c .before .before .before .args in
+    literalsOf (a .r) (c .before .least .result) (now (a .body)) ≡ literalsOf (a .r) (min (a .n) mostOutputs) (now (a .body))
+whole c = let a = c .before .before .before .args in ap (λ k. literalsOf (a .r) k (now (a .body))) (c .before .least .ensures)
 
 -- the literals from the one that was said on
-told : (c : tie.After-said-at Inv-loop μ-loop) → literalsOf (c .before .before .before .before .before .args .r) (c .before .before .before .least .result) (now (c .before .before .before .before .before .args .body))
-    ≡ literalsFrom (c .before .before .before .before .before .args .r) (c .before .before .before .least .result) (c .before .before .loop .next)
-    (ofWord (c .before .before .loop .word) (c .before .before .loop .ranks)) (c .said-at .result ∷ narrows (drop (c .before .before .loop .i + 2) (now (c .before .before .before .before .before .args .body))))
+told : (c : tie.After-said-at Inv-loop μ-loop) → let d = c .before .before in
+    let a = d .before .before .before .args in
+    let l = d .loop in
+    literalsOf (a .r) (d .before .least .result) (now (a .body))
+    ≡ literalsFrom (a .r) (d .before .least .result) (l .next) (ofWord (l .word) (l .ranks)) (c .said-at .result ∷ narrows (drop (l .i + 2) (now (a .body))))
 told c =
     let d = c .before .before in
     let a = d .before .before .before .args in
@@ -65,7 +67,9 @@ returns c =
     ∙ whole d
 
 -- what `is_literal` said
-good : (c : tie.Else1 Inv-loop μ-loop) → isLiteral (c .before .before .said-at .result) (c .before .before .before .before .before .before .before .args .r) (c .before .before .before .before .before .least .result) ≡ true
+good : (c : tie.Else1 Inv-loop μ-loop) → let q = c .before .before in
+    let d = q .before .before in
+    isLiteral (q .said-at .result) (d .before .before .before .args .r) (d .before .least .result) ≡ true
 good c = sym (c .before .is-literal .ensures) ∙ not-false _ (c .if1 .left)
 
 said : (c : tie.Else1 Inv-loop μ-loop) → c .before .before .said-at .result .number < mostReads
@@ -115,41 +119,47 @@ array-write-ranks c =
     let e = c .before .before .before .before in
     subst (λ o. e .before .before .said-at .result .number < room o) (c .if3 .taken) (fits e)
 
-loop-less : tie.Need-loop-less Inv-loop μ-loop
-loop-less c = omega arith
-
-loop-again : tie.Need-loop-again Inv-loop μ-loop
-loop-again c =
-    let w = c .before in
+-- the literal is taken, and the rest of the body is still to be
+onward : (w : tie.After-with-literal Inv-loop μ-loop) → let q = w .before .before .before .before .before in
+    let d = q .before .before in
+    let a = d .before .before .before .args in
+    let l = d .loop in
+    let s = q .said-at .result in
+    (ranked : List ℕ) → cond (s .out) (set (l .ranks) (s .number) (s .rank)) (l .ranks) ≡ ranked → literalsOf (a .r) (d .before .least .result) (now (a .body))
+    ≡ literalsFrom (a .r) (d .before .least .result) (w .before .before .place-of .result + 1) (ofWord (w .with-literal .result) ranked) (narrows (drop (l .i + 2) (now (a .body))))
+onward w ranked own =
     let p = w .before .before in
     let q = p .before .before .before in
     let d = q .before .before in
     let a = d .before .before .before .args in
     let l = d .loop in
+    turned (a .r) (d .before .least .result) (l .next) (l .word) (l .ranks) (now (a .body)) (l .i) (q .before .loop-test .taken) (q .said-at .result) (q .said-at .ensures) _ (l .inv)
+    (good (p .before)) (rw (p .place-of .ensures) at (w .before .if2 .left)) (fits (p .before)) (p .place-of .result) (p .place-of .ensures) (w .with-literal .result) (w .with-literal .ensures) ranked own
+
+loop-less : tie.Need-loop-less Inv-loop μ-loop
+loop-less c = omega arith
+
+loop-again : tie.Need-loop-again Inv-loop μ-loop
+loop-again c =
+    let q = c .before .before .before .before .before .before in
     let s = q .said-at .result in
-    turned (a .r) (d .before .least .result) (l .next) (l .word) (l .ranks) (now (a .body)) (l .i) (q .before .loop-test .taken) s (q .said-at .ensures) _ (l .inv)
-    (good (p .before)) (rw (p .place-of .ensures) at (w .before .if2 .left)) (fits (p .before)) (p .place-of .result) (p .place-of .ensures) (w .with-literal .result) (w .with-literal .ensures) _
-    (sym (cond-true (s .out) (set (l .ranks) (s .number) (s .rank)) (l .ranks) (c .if3 .taken)))
+    let r = q .before .before .loop .ranks in
+    onward (c .before) _ (sym (cond-true (s .out) (set r (s .number) (s .rank)) r (c .if3 .taken)))
 
 loop-less-2 : tie.Need-loop-less-2 Inv-loop μ-loop
 loop-less-2 c = omega arith
 
 loop-again-2 : tie.Need-loop-again-2 Inv-loop μ-loop
 loop-again-2 c =
-    let w = c .before in
-    let p = w .before .before in
-    let q = p .before .before .before in
-    let d = q .before .before in
-    let a = d .before .before .before .args in
-    let l = d .loop in
+    let q = c .before .before .before .before .before .before in
     let s = q .said-at .result in
-    turned (a .r) (d .before .least .result) (l .next) (l .word) (l .ranks) (now (a .body)) (l .i) (q .before .loop-test .taken) s (q .said-at .ensures) _ (l .inv)
-    (good (p .before)) (rw (p .place-of .ensures) at (w .before .if2 .left)) (fits (p .before)) (p .place-of .result) (p .place-of .ensures) (w .with-literal .result) (w .with-literal .ensures) _
-    (sym (cond-false (s .out) (set (l .ranks) (s .number) (s .rank)) (l .ranks) (c .if3 .left)))
+    let r = q .before .before .loop .ranks in
+    onward (c .before) _ (sym (cond-false (s .out) (set r (s .number) (s .rank)) r (c .if3 .left)))
 
 -- at the end of the body
-ended : (c : tie.After-loop Inv-loop μ-loop) → literalsOf (c .before .before .before .before .args .r) (c .before .before .least .result) (now (c .before .before .before .before .args .body))
-    ≡ lastLiteral (c .before .loop .next) (ofWord (c .before .loop .word) (c .before .loop .ranks))
+ended : (c : tie.After-loop Inv-loop μ-loop) → let d = c .before in
+    let a = d .before .before .before .args in
+    literalsOf (a .r) (d .before .least .result) (now (a .body)) ≡ lastLiteral (d .loop .next) (ofWord (d .loop .word) (d .loop .ranks))
 ended c =
     let d = c .before in
     let a = d .before .before .before .args in
