@@ -541,18 +541,14 @@ static uint8_t *put_name(uint8_t *to, const uint8_t *name)
     return to;
 }
 
-static uint8_t *put_literals(uint8_t *to, const struct set *s, const struct constraint *c)
+// The literals of the points that are named, numbered from `base` on; the rank is 0 where there are no ranks.
+static uint8_t *put_literals(uint8_t *to, uint8_t base, uint32_t negated, uint32_t named, const uint8_t *ranks)
 {
-    for (size_t k = 0; k < s->r; k++)
-        if (((c->read_plain | c->read_negated) >> k & 1) != 0) {
-            *to++ = (uint8_t)((c->read_negated >> k & 1) << 7 | k);
-            *to++ = 0;
-        }
-    for (size_t k = 0; k < s->n; k++)
-        if (((c->out_plain | c->out_negated) >> k & 1) != 0) {
-            *to++ = (uint8_t)((c->out_negated >> k & 1) << 7 | 0x40 | k);
-            *to++ = c->ranks[k];
-        }
+    for (; named != 0; named &= named - 1) {
+        unsigned k = (unsigned)__builtin_ctz(named);
+        *to++ = (uint8_t)((negated >> k & 1) << 7 | base | k);
+        *to++ = ranks == NULL ? 0 : ranks[k];
+    }
     return to;
 }
 
@@ -576,7 +572,9 @@ static void put_file(const struct set *s, uint8_t *buf)
     }
     for (size_t i = 0; i < s->m; i++) {
         field = end;
-        end = put_literals(field + 3, s, &s->constraints[i]);
+        const struct constraint *c = &s->constraints[i];
+        end = put_literals(field + 3, 0, c->read_negated, c->read_plain | c->read_negated, NULL);
+        end = put_literals(end, 0x40, c->out_negated, c->out_plain | c->out_negated, c->ranks);
         put_header(field, TAG_CONSTRAINT, end);
     }
     put_header(end, TAG_END, end + 3);

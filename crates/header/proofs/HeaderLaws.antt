@@ -1,7 +1,7 @@
--- What `headerOf` finds, one law for each outcome, and what a field that was found tells.
+-- What `rawOf` and `headerOf` find, one law for each outcome, and what a field that was found tells.
 -- Assumes nothing.
 use mathlib.Core.Path.{_≡_, refl, sym, _∙_, ap, ap₂, subst}
-use mathlib.Core.Bool.{Bool, true, false, not, _&&_}
+use mathlib.Core.Bool.{Bool, true, false, cond, not, _&&_, _||_}
 use mathlib.Core.List.{List}
 use Prim.Native.Nat.{ℕ, zero, suc, _+_, _*_, _%_, _≤_, _<_}
 use native.Mathlib.Omega.{arith}
@@ -9,9 +9,12 @@ use native.Mathlib.Nat.{add-zero}
 use lib.Dec.{ltb, leb, eqb, lit<}
 use lib.ListN.{length, getD, drop, length-drop}
 use lib.Seq.{getD-drop}
-use borrow.Author.Tests.{not-true, le-leb, lt-leb, leb-true, leb-false, eqb-true, eqb-false, eq-eqb, ne-eqb}
-use Rattle.words.proofs.BoolLaws.{clash, by-test, and-true, or-true}
-use Rattle.header.specs.Header.{headerOf, frontOf, need, isDue, fitsTable, bodyLength, shortest, longest, step}
+use borrow.Author.Tests.{not-true, lt-ltb, le-ltb, ltb-false, leb-true, leb-false, eqb-true, eqb-false, ne-eqb}
+use Rattle.words.proofs.BoolLaws.{clash, by-test, and-true, or-true, or-false}
+use Rattle.scan.specs.Set.{mostConstraints, namePlaces}
+use Rattle.header.specs.declared.header.RawField.{RawField}
+use Rattle.header.specs.declared.header.RawField.the-variants.{Cut, Field as Whole}
+use Rattle.header.specs.Header.{bodyLength, isCut, rawOf, tagBound, shortest, longest, step, fitsTable, isDue, need, headerBy, headerOf, frontOf}
 use Rattle.header.specs.declared.header.Header.{Header}
 use Rattle.header.specs.declared.header.Header.the-variants.{Refused, Field}
 use Rattle.header.specs.declared.reader.FrontField.{FrontField}
@@ -19,7 +22,7 @@ use Rattle.header.specs.declared.reader.FrontField.{FrontField}
 -- ---- the table
 
 -- a length's remainder by its step is taken: no step is 0
-pub step-positive : (tag : ℕ) → tag < 6 → 0 < step tag
+pub step-positive : (tag : ℕ) → tag < tagBound → 0 < step tag
 step-positive zero h = lit< tt
 step-positive (suc zero) h = lit< tt
 step-positive (suc (suc zero)) h = lit< tt
@@ -31,39 +34,49 @@ step-positive (suc (suc (suc (suc (suc (suc tag)))))) h = absurd (omega arith)
 -- what a length in the table is
 pub table-bounds : (tag len : ℕ) → fitsTable tag len ≡ true → (shortest tag ≤ len) × (len ≤ longest tag) × (len % step tag ≡ 0)
 table-bounds tag len e =
-    let a = and-true (ltb tag 6) (leb (shortest tag) len && (leb len (longest tag) && eqb (len % step tag) 0)) e in
+    let a = and-true (ltb tag tagBound) (leb (shortest tag) len && (leb len (longest tag) && eqb (len % step tag) 0)) e in
     let b = and-true (leb (shortest tag) len) (leb len (longest tag) && eqb (len % step tag) 0) (a .1) in
     let c = and-true (leb len (longest tag)) (eqb (len % step tag) 0) (b .1) in
     (leb-true _ _ (b .0), leb-true _ _ (c .0), eqb-true _ _ (c .1))
 
--- ---- what is found
+-- ---- the field at the front of what is left
 
-module _ (s : List ℕ) (due m : ℕ) where
-  pub no-header : length s < 3 → headerOf s due m ≡ Refused 1
-  unfolding headerOf
-  no-header h = simp (lt-leb _ _ h)
+module _ (s : List ℕ) where
+  pub cut-header : length s < 3 → isCut s ≡ true
+  cut-header h = ap (λ (b : Bool). b || ltb (length s) (3 + bodyLength s)) (lt-ltb _ _ h)
 
-  pub no-body : 3 ≤ length s → length s < 3 + bodyLength s → headerOf s due m ≡ Refused 1
-  unfolding headerOf
-  no-body h l = simp (le-leb _ _ h, lt-leb _ _ l)
+  pub cut-body : 3 ≤ length s → length s < 3 + bodyLength s → isCut s ≡ true
+  cut-body h l = ap₂ _||_ (le-ltb _ _ h) (lt-ltb _ _ l)
 
-  module _ (h : 3 ≤ length s) (l : 3 + bodyLength s ≤ length s) where
-    pub not-due : isDue due (getD s 0 0) ≡ false → headerOf s due m ≡ Refused 2
-    unfolding headerOf
-    not-due d = simp (le-leb _ _ h, le-leb _ _ l, d)
+  pub not-cut : 3 ≤ length s → 3 + bodyLength s ≤ length s → isCut s ≡ false
+  not-cut h l = ap₂ _||_ (le-ltb _ _ h) (le-ltb _ _ l)
 
-    pub too-many : isDue due (getD s 0 0) ≡ true → getD s 0 0 ≡ 4 → 64 ≤ m → headerOf s due m ≡ Refused 3
-    unfolding headerOf
-    too-many d f g = simp (le-leb _ _ h, le-leb _ _ l, d, eq-eqb _ _ f, le-leb _ _ g)
+  pub raw-cut : isCut s ≡ true → rawOf s ≡ Cut
+  unfolding rawOf
+  raw-cut e = ap (λ (b : Bool). cond b Cut (Whole (getD s 0 0) (bodyLength s))) e
 
-    module _ (d : isDue due (getD s 0 0) ≡ true) (g : (eqb (getD s 0 0) 4 && leb 64 m) ≡ false) where
-      pub not-in-table : fitsTable (getD s 0 0) (bodyLength s) ≡ false → headerOf s due m ≡ Refused 4
-      unfolding headerOf
-      not-in-table t = simp (le-leb _ _ h, le-leb _ _ l, d, g, t)
+  pub raw-field : isCut s ≡ false → rawOf s ≡ Whole (getD s 0 0) (bodyLength s)
+  unfolding rawOf
+  raw-field e = ap (λ (b : Bool). cond b Cut (Whole (getD s 0 0) (bodyLength s))) e
 
-      pub a-field : fitsTable (getD s 0 0) (bodyLength s) ≡ true → headerOf s due m ≡ Field (getD s 0 0) (bodyLength s)
-      unfolding headerOf
-      a-field t = simp (le-leb _ _ h, le-leb _ _ l, d, g, t)
+  -- what a field that is there tells
+  pub record Told (tag len : ℕ) : Type 0 where
+    pub tag-is : getD s 0 0 ≡ tag
+    pub length-is : bodyLength s ≡ len
+    pub within : 3 + len ≤ length s
+
+  pub raw-told : (tag len : ℕ) → rawOf s ≡ Whole tag len → Told tag len
+  raw-told tag len e = by-test (isCut s) (λ q. absurd (never (sym (raw-cut q) ∙ e))) go
+    where
+      never : Cut ≡ Whole tag len → ⊥
+      never x = let z : _≡_ {A = ℕ} 0 1 = cc in omega arith
+
+      go : isCut s ≡ false → Told tag len
+      go q =
+          let f : Whole (getD s 0 0) (bodyLength s) ≡ Whole tag len = sym (raw-field q) ∙ e in
+          let l : bodyLength s ≡ len = cc in
+          let w = ltb-false (length s) (3 + bodyLength s) (or-false (ltb (length s) 3) _ q .1) in
+          record { tag-is = cc; length-is = l; within = omega arith }
 
 -- the header of what is left from a place on
 module _ (s : List ℕ) (place : ℕ) where
@@ -73,14 +86,40 @@ module _ (s : List ℕ) (place : ℕ) where
   pub length-at : bodyLength (drop place s) ≡ getD s (place + 1) 0 * 256 + getD s (place + 2) 0
   length-at = simp getD-drop
 
--- ---- what a field that was found tells
+-- ---- its tests
+
+module _ (s : List ℕ) (due m : ℕ) where
+  pub past-end : rawOf s ≡ Cut → headerOf s due m ≡ Refused 1
+  unfolding headerOf
+  past-end e = rw e
+
+  module _ (tag len : ℕ) (e : rawOf s ≡ Whole tag len) where
+    pub not-due : isDue due tag ≡ false → headerOf s due m ≡ Refused 2
+    unfolding headerOf
+    not-due d = rw (e, d)
+
+    module _ (d : isDue due tag ≡ true) where
+      pub too-many : (eqb tag 4 && leb mostConstraints m) ≡ true → headerOf s due m ≡ Refused 3
+      unfolding headerOf
+      too-many g = rw (e, d, g)
+
+      module _ (g : (eqb tag 4 && leb mostConstraints m) ≡ false) where
+        pub not-in-table : fitsTable tag len ≡ false → headerOf s due m ≡ Refused 4
+        unfolding headerOf
+        not-in-table t = rw (e, d, g, t)
+
+        pub a-field : fitsTable tag len ≡ true → headerOf s due m ≡ Field tag len
+        unfolding headerOf
+        a-field t = rw (e, d, g, t)
+
+-- ---- what a field that passes them tells
 
 pub record Found (s : List ℕ) (due m tag len : ℕ) : Type 0 where
   pub tag-is : getD s 0 0 ≡ tag
   pub length-is : bodyLength s ≡ len
   pub within : 3 + len ≤ length s
   pub awaited : isDue due tag ≡ true
-  pub few : (eqb tag 4 && leb 64 m) ≡ false
+  pub few : (eqb tag 4 && leb mostConstraints m) ≡ false
   pub table : fitsTable tag len ≡ true
 
 passed : (b : Bool) (number : ℕ) (rest : Header) (tag len : ℕ) → need b number rest ≡ Field tag len → (b ≡ true) × (rest ≡ Field tag len)
@@ -89,23 +128,25 @@ passed false number rest tag len e = let z : _≡_ {A = ℕ} 0 1 = cc in absurd 
 
 pub found : (s : List ℕ) (due m tag len : ℕ) → headerOf s due m ≡ Field tag len → Found s due m tag len
 unfolding headerOf
-found s due m tag len e =
-    let a = passed (leb 3 (length s)) 1 _ tag len e in
-    let b = passed (leb (3 + bodyLength s) (length s)) 1 _ tag len (a .1) in
-    let d = passed (isDue due (getD s 0 0)) 2 _ tag len (b .1) in
-    let f = passed (not (eqb (getD s 0 0) 4 && leb 64 m)) 3 _ tag len (d .1) in
-    let g = passed (fitsTable (getD s 0 0) (bodyLength s)) 4 _ tag len (f .1) in
-    let t : getD s 0 0 ≡ tag = let h = g .1 in cc in
-    let l : bodyLength s ≡ len = let h = g .1 in cc in
-    let w : 3 + bodyLength s ≤ length s = leb-true (3 + bodyLength s) (length s) (b .0) in
-    record {
-      tag-is = t;
-      length-is = l;
-      within = omega (arith, w, l);
-      awaited = subst (λ (k : ℕ). isDue due k ≡ true) t (d .0);
-      few = subst (λ (k : ℕ). (eqb k 4 && leb 64 m) ≡ false) t (not-true (eqb (getD s 0 0) 4 && leb 64 m) (f .0));
-      table = ap₂ (λ (k j : ℕ). fitsTable k j) (sym t) (sym l) ∙ g .0;
-    }
+found s due m tag len e = go (rawOf s) refl e
+  where
+    go : (f : RawField) → rawOf s ≡ f → headerBy due m f ≡ Field tag len → Found s due m tag len
+    go Cut q e = let z : _≡_ {A = ℕ} 0 1 = cc in absurd (omega arith)
+    go (Whole k j) q e =
+        let a = passed (isDue due k) 2 _ tag len e in
+        let b = passed (not (eqb k 4 && leb mostConstraints m)) 3 _ tag len (a .1) in
+        let c = passed (fitsTable k j) 4 _ tag len (b .1) in
+        let t : k ≡ tag = let h = c .1 in cc in
+        let l : j ≡ len = let h = c .1 in cc in
+        let told = raw-told s tag len (q ∙ ap₂ Whole t l) in
+        record {
+          tag-is = told .tag-is;
+          length-is = told .length-is;
+          within = told .within;
+          awaited = subst (λ (x : ℕ). isDue due x ≡ true) t (a .0);
+          few = subst (λ (x : ℕ). (eqb x 4 && leb mostConstraints m) ≡ false) t (not-true (eqb k 4 && leb mostConstraints m) (b .0));
+          table = ap₂ (λ (x y : ℕ). fitsTable x y) (sym t) (sym l) ∙ c .0;
+        }
 
 -- a field that was found at a place is within the file
 pub field-within : (s : List ℕ) (at due m tag len : ℕ) → headerOf (drop at s) due m ≡ Field tag len → at + 3 + len ≤ length s
@@ -130,19 +171,19 @@ body-bounds s due m tag len n e =
 pub counts-length : (s : List ℕ) (tag len : ℕ) → headerOf s 1 0 ≡ Field tag len → len ≡ 2
 counts-length s tag len e = let b = body-bounds s 1 0 tag len (eqb-false 1 4 refl) e in omega arith
 
-pub read-length : (s : List ℕ) (tag len : ℕ) → headerOf s 2 0 ≡ Field tag len → (3 ≤ len) × (len ≤ 10)
+pub read-length : (s : List ℕ) (tag len : ℕ) → headerOf s 2 0 ≡ Field tag len → (3 ≤ len) × (len ≤ 2 + namePlaces)
 read-length s tag len e = body-bounds s 2 0 tag len (eqb-false 2 4 refl) e
 
-pub output-length : (s : List ℕ) (tag len : ℕ) → headerOf s 3 0 ≡ Field tag len → (1 ≤ len) × (len ≤ 8)
+pub output-length : (s : List ℕ) (tag len : ℕ) → headerOf s 3 0 ≡ Field tag len → (1 ≤ len) × (len ≤ namePlaces)
 output-length s tag len e = body-bounds s 3 0 tag len (eqb-false 3 4 refl) e
 
 -- where a constraint or the end is due, and the end was not found
-pub constraint-length : (s : List ℕ) (m tag len : ℕ) → (tag ≡ 5 → ⊥) → headerOf s 4 m ≡ Field tag len → (len ≤ 48) × (len % 2 ≡ 0) × (m < 64)
+pub constraint-length : (s : List ℕ) (m tag len : ℕ) → (tag ≡ 5 → ⊥) → headerOf s 4 m ≡ Field tag len → (len ≤ 48) × (len % 2 ≡ 0) × (m < mostConstraints)
 constraint-length s m tag len n e =
     let f = found s 4 m tag len e in
     let t : tag ≡ 4 = by-test (eqb tag 4) (eqb-true tag 4) (λ w. absurd (n (eqb-true tag 5 (or-true (eqb tag 4) (eqb tag 5) (f .awaited) w)))) in
     let b = table-bounds 4 len (subst (λ (k : ℕ). fitsTable k len ≡ true) t (f .table)) in
-    (b .1, b .2, leb-false 64 m (subst (λ (k : ℕ). (eqb k 4 && leb 64 m) ≡ false) t (f .few)))
+    (b .1, b .2, leb-false mostConstraints m (subst (λ (k : ℕ). (eqb k 4 && leb mostConstraints m) ≡ false) t (f .few)))
 
 -- ---- the field at a place of a file
 

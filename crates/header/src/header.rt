@@ -5,21 +5,26 @@ use super::numbers::PAST_END;
 use super::numbers::TAG_CONSTRAINT;
 use super::numbers::TAG_END;
 use super::numbers::TAG_NOT_DUE;
+use scan::MOST_CONSTRAINTS;
 ghost use mathlib.Core.Path.{_≡_};
 ghost use lib.ListN.{drop};
-ghost use Rattle.header.specs.Header.{fitsTable, isDue, headerOf};
+ghost use Rattle.header.specs.Header.{rawOf, fitsTable, isDue, headerOf};
+
+// Tags are below this.
+const TAG_BOUND: usize = 6;
 
 // By tag: the shortest body, the longest body, and what a body's length is a multiple of.
-const TAGS: u8 = 6;
+const SHORTEST: [u8; TAG_BOUND] = [0, 2, 3, 1, 2, 0];
 
-const SHORTEST: [u8; 6] = [0, 2, 3, 1, 2, 0];
+const LONGEST: [u8; TAG_BOUND] = [0, 2, 10, 8, 48, 0];
 
-const LONGEST: [u8; 6] = [0, 2, 10, 8, 48, 0];
+const STEP: [u8; TAG_BOUND] = [1, 1, 1, 1, 2, 1];
 
-const STEP: [u8; 6] = [1, 1, 1, 1, 2, 1];
-
-// The most constraints of a set.
-const MOST_CONSTRAINTS: usize = 64;
+// A field whatever its tag: header or body runs past the end; or the tag and the length of the body.
+pub enum RawField {
+    Cut,
+    Field(u8, usize),
+}
 
 // A refusal's number; or the tag and the length of the body.
 pub enum Header {
@@ -33,13 +38,34 @@ fn wide(x: u8) -> usize
     x as usize
 }
 
+// The field at `at`, whatever its tag.
+pub fn field_at(s: &[u8], at: usize) -> RawField
+    ensures { λ r. ⌜ r ≡ rawOf (drop at (now (s .entry))) ⌝ }
+{
+    if s.len() < 3 {
+        return RawField::Cut;
+    }
+    let last = s.len() - 3;
+    if last < at {
+        return RawField::Cut;
+    }
+    let tag = s[at];
+    let high = wide(s[at + 1]);
+    let low = wide(s[at + 2]);
+    let len = high * 256 + low;
+    if last - at < len {
+        return RawField::Cut;
+    }
+    RawField::Field(tag, len)
+}
+
 fn fits_table(tag: u8, len: usize) -> bool
     ensures { λ r. ⌜ r ≡ fitsTable tag len ⌝ }
 {
-    if TAGS <= tag {
+    let t = tag as usize;
+    if TAG_BOUND <= t {
         return false;
     }
-    let t = tag as usize;
     let shortest = wide(SHORTEST[t]);
     let longest = wide(LONGEST[t]);
     let step = wide(STEP[t]);
@@ -69,30 +95,22 @@ fn is_due(due: u8, tag: u8) -> bool
 pub fn header_at(s: &[u8], at: usize, due: u8, m: usize) -> Header
     ensures { λ r. ⌜ r ≡ headerOf (drop at (now (s .entry))) due m ⌝ }
 {
-    if s.len() < 3 {
-        return Header::Refused(PAST_END);
-    }
-    let last = s.len() - 3;
-    if last < at {
-        return Header::Refused(PAST_END);
-    }
-    let tag = s[at];
-    let high = wide(s[at + 1]);
-    let low = wide(s[at + 2]);
-    let len = high * 256 + low;
-    if last - at < len {
-        return Header::Refused(PAST_END);
-    }
-    if !is_due(due, tag) {
-        return Header::Refused(TAG_NOT_DUE);
-    }
-    if tag == TAG_CONSTRAINT {
-        if MOST_CONSTRAINTS <= m {
-            return Header::Refused(MANY_CONSTRAINTS);
+    let field = field_at(s, at);
+    match field {
+        RawField::Cut => Header::Refused(PAST_END),
+        RawField::Field(tag, len) => {
+            if !is_due(due, tag) {
+                return Header::Refused(TAG_NOT_DUE);
+            }
+            if tag == TAG_CONSTRAINT {
+                if MOST_CONSTRAINTS <= m {
+                    return Header::Refused(MANY_CONSTRAINTS);
+                }
+            }
+            if !fits_table(tag, len) {
+                return Header::Refused(BAD_LENGTH);
+            }
+            Header::Field(tag, len)
         }
     }
-    if !fits_table(tag, len) {
-        return Header::Refused(BAD_LENGTH);
-    }
-    Header::Field(tag, len)
 }

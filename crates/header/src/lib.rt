@@ -1,9 +1,11 @@
-// The fields of a set file, front to back: tags, numbers of refusals, and a field's header.
+// The fields of a file, front to back: a field whatever its tag; and of a set file tags, numbers of refusals, and a field's header.
 mod numbers; // numbers of refusals, and tags
 mod header; // a field's header
 mod reader; // a file and a place in it
 
 pub use header::Header;
+pub use header::RawField;
+pub use header::field_at;
 pub use numbers::BAD_COUNTS;
 pub use numbers::BAD_KIND;
 pub use numbers::BAD_LENGTH;
@@ -21,5 +23,6 @@ pub use numbers::TAG_END;
 pub use numbers::TAG_NOT_DUE;
 pub use numbers::TAG_OUTPUT;
 pub use numbers::TAG_READ;
+pub use numbers::Taken;
 pub use reader::FrontField;
 pub use reader::front_at;

@@ -1,4 +1,11 @@
 // Numbers of refusals, as document 01 has them, and the tags of fields.
+
+// A refusal's number, or that what was read is good.
+pub enum Taken {
+    Refused(u8),
+    Good,
+}
+
 pub const PAST_END: u8 = 1;
 
 pub const TAG_NOT_DUE: u8 = 2;

@@ -11,7 +11,7 @@ use lib.Bits.{bitOr}
 use Rattle.scan.specs.declared.set.Constraint.{Constraint}
 use Rattle.scan.specs.Set.{mostReads, zeroConstraint}
 use Rattle.literal.specs.declared.literal.Said.{Said}
-use Rattle.literal.specs.declared.literal.Taken.the-variants.{Refused, Good}
+use Rattle.header.specs.declared.numbers.Taken.the-variants.{Refused, Good}
 use Rattle.literal.specs.declared.literal.Literals.{Literals}
 
 -- ---- what bytes say

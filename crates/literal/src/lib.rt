@@ -2,5 +2,4 @@
 mod literal; // what bytes say, and what is said taken into masks and ranks
 
 pub use literal::Literals;
-pub use literal::Taken;
 pub use literal::literals_of;

@@ -3,6 +3,7 @@ use choice::least;
 use header::BAD_LITERAL;
 use header::NO_OUTPUT;
 use header::NOT_RISING;
+use header::Taken;
 use scan::Constraint;
 use scan::MOST_OUTPUTS;
 use scan::MOST_READS;
@@ -20,12 +21,6 @@ pub struct Said {
     pub negated: bool,
     pub number: usize,
     pub rank: u8,
-}
-
-// A refusal's number, or that the literals are good.
-pub enum Taken {
-    Refused(u8),
-    Good,
 }
 
 pub struct Literals {

@@ -8,52 +8,39 @@ use Prim.Native.Nat.{ℕ, zero, suc, _+_, _≤_, _<_}
 use native.Mathlib.Omega.{arith}
 use lib.Dec.{ltb, leb, eqb}
 use lib.ListN.{length, getD, drop, length-drop, length-take}
-use borrow.Author.Tests.{not-true, not-false, eqb-true, ltb-true, ltb-false, lt-leb, le-leb, leb-true}
+use borrow.Author.Tests.{not-true, not-false, eqb-true, ltb-true, ltb-false, lt-leb, le-leb}
 use Rattle.words.specs.Loop.{every}
-use Rattle.words.proofs.BoolLaws.{by-test, clash, and-true, or-true, or-false}
+use Rattle.words.proofs.BoolLaws.{by-test, clash, or-false}
 use Rattle.scan.specs.declared.set.Kind.{Kind}
 use Rattle.scan.specs.declared.set.Kind.the-variants.{Sensor, PastOutput, PastSensor}
 use Rattle.scan.specs.declared.set.Constraint.{Constraint}
 use Rattle.scan.specs.declared.set.Set.{Set}
-use Rattle.shape.specs.declared.names.Spelled.{Spelled}
-use Rattle.scan.specs.Set.{mostReads, readPoint}
+use Rattle.scan.specs.Set.{mostReads, mostConstraints, namePlaces, readPoint}
 use Rattle.scan.specs.Names.{allNameBytes, padded, isUsed}
-use Rattle.shape.specs.Spelling.{spelling}
 use Rattle.scan.specs.Shape.{countTests, isSensor}
 use Rattle.shape.proofs.SpellingLaws.{spell-name, spell-strange}
 use Rattle.header.specs.declared.header.Header.the-variants.{Refused as Stopped, Field}
 use Rattle.loader.specs.declared.point.KindRead.the-variants.{Bad, Known}
-use Rattle.loader.specs.declared.point.Point.the-variants.{Good}
+use Rattle.header.specs.declared.numbers.Taken.{Taken}
+use Rattle.header.specs.declared.numbers.Taken.the-variants.{Refused as Denied, Good}
+use Rattle.loader.specs.declared.point.NameField.{NameField}
 use Rattle.loader.specs.declared.point.ReadField.{ReadField}
-use Rattle.loader.specs.declared.point.OutputField.{OutputField}
-use Rattle.literal.specs.declared.literal.Taken.{Taken}
-use Rattle.literal.specs.declared.literal.Taken.the-variants.{Refused as Failed, Good as Passed}
 use Rattle.literal.specs.declared.literal.Literals.{Literals}
 use Rattle.loader.specs.declared.loader.Progress.{Progress}
 use Rattle.loader.specs.declared.loader.Progress.the-variants.{At, Refused}
-use Rattle.loader.specs.declared.loader.Loading.{Loading}
-use Rattle.header.specs.Header.{headerOf, bodyOf, bodyLength, isDue, fitsTable}
+use Rattle.header.specs.Test.{Test, test, FirstFails, NoneFails}
+use Rattle.header.specs.Header.{headerOf, bodyOf, bodyLength, isCut, isDue, fitsTable}
 use Rattle.literal.specs.declared.literal.Said.{Said}
 use Rattle.literal.specs.Literal.{narrows, place, isLiteral, withLiteral, refusedLiterals, goodLiterals, literalThen, literalsFrom, literalsOf}
-use Rattle.loader.specs.Load.{refusal, goingOn, thenFrom, andThen, ofCounts, countsGiven, countsAt, kindOf, deniedRead, readNamed, readTold, readField, readDone, readGiven, readAt, readsFrom, deniedOutput, outputNamed, outputField, outputDone, outputGiven, outputAt, outputsFrom, constraintDone, constraintAt, endAt, constraintsGiven, constraintsFrom, afterCounts, afterReads, answerOf, loadFrom, loadOf}
-use Rattle.loader.specs.Column.{Test, test, FirstFails, NoneFails, behindPlace, behind, headerTests, bodyAt, countsTests, kindFits, nameTests, readTests, outputTests, literalTests, namesOutput, bodyTests, endTests, readsTests, outputsTests, tagTests, constraintsTests, readsOn, outputsOn, loadTests}
+use Rattle.loader.specs.Load.{Loading, refusal, goingOn, thenFrom, andThen, fieldDone, fieldBy, fieldAt, goodIf, countsTold, countsMade, countsAt}
+use Rattle.loader.specs.Load.{nameField, kindOf, readField, sensorAt, readOf, withRead, readAt, readsFrom, outputOf, withOutput, outputAt, outputsFrom}
+use Rattle.loader.specs.Load.{withConstraint, constraintAt, endAt, constraintsGiven, constraintsFrom, afterCounts, afterReads, answerOf, loadFrom, loadOf}
+use Rattle.loader.specs.Column.{behindPlace, behind, headerTests, bodyAt, countsTests, kindFits, nameTests, readTests, outputTests, literalTests, namesOutput}
+use Rattle.loader.specs.Column.{bodyTests, endTests, readsTests, outputsTests, tagTests, constraintsTests, readsOn, outputsOn, loadTests}
 use Rattle.loader.specs.Told.{loadTold}
-use Rattle.header.proofs.HeaderLaws.{no-header, no-body, not-due, too-many, not-in-table, a-field, found, read-length, output-length}
-
--- ---- columns one behind the other
-
-first-front : (a b : List Test) (c o : ℕ) → FirstFails a c o → FirstFails (a ++ b) c o
-first-front [] b c o x = absurd x
-first-front (t ∷ a) b c o (inl x) = inl x
-first-front (t ∷ a) b c o (inr x) = inr (x .0, first-front a b c o (x .1))
-
-first-behind : (a b : List Test) (c o : ℕ) → NoneFails a → FirstFails b c o → FirstFails (a ++ b) c o
-first-behind [] b c o n x = x
-first-behind (t ∷ a) b c o n x = inr (n .0, first-behind a b c o (n .1) x)
-
-none-joined : (a b : List Test) → NoneFails a → NoneFails b → NoneFails (a ++ b)
-none-joined [] b n m = m
-none-joined (t ∷ a) b n m = (n .0, none-joined a b (n .1) m)
+use Rattle.header.proofs.TestLaws.{first-front, first-behind, none-joined, first-once, none-first}
+use Rattle.header.proofs.HeaderLaws.{raw-cut, raw-field, past-end, not-due, too-many, not-in-table, a-field, found, read-length, output-length}
+use Rattle.loader.proofs.LoadLaws.{name-bad, name-used, name-good, read-bad, read-known}
 
 -- ---- a load and its column
 
@@ -98,70 +85,84 @@ by-header file at due m stop go =
     let s = drop at file in
     let tag = getD s 0 0 in
     let len = bodyLength s in
-    by-test (ltb (length s) 3 || ltb (length s) (3 + len))
-    (λ f1. stop 1
-    (by-test (ltb (length s) 3) (λ t. no-header s due m (ltb-true (length s) 3 t))
-    (λ t. no-body s due m (ltb-false (length s) 3 t) (ltb-true (length s) (3 + len) (or-true (ltb (length s) 3) (ltb (length s) (3 + len)) f1 t))))
-    (inl (f1, refl, refl)))
+    by-test (isCut s)
+    (λ f1. stop 1 (past-end s due m (raw-cut s f1)) (inl (f1, refl, refl)))
     (λ n1.
-    let apart = or-false (ltb (length s) 3) (ltb (length s) (3 + len)) n1 in
-    let h : 3 ≤ length s = ltb-false (length s) 3 (apart .0) in
-    let l : 3 + len ≤ length s = ltb-false (length s) (3 + len) (apart .1) in
+    let e = raw-field s n1 in
     by-test (not (isDue due tag))
-    (λ f2. stop 2 (not-due s due m h l (not-true (isDue due tag) f2)) (inr (n1, inl (f2, refl, refl))))
+    (λ f2. stop 2 (not-due s due m tag len e (not-true (isDue due tag) f2)) (inr (n1, inl (f2, refl, refl))))
     (λ n2.
     let d = not-false (isDue due tag) n2 in
-    by-test (eqb tag 0x04 && leb 64 m)
-    (λ f3.
-    let both = and-true (eqb tag 0x04) (leb 64 m) f3 in
-    stop 3 (too-many s due m h l d (eqb-true tag 0x04 (both .0)) (leb-true 64 m (both .1))) (inr (n1, inr (n2, inl (f3, refl, refl)))))
+    by-test (eqb tag 0x04 && leb mostConstraints m)
+    (λ f3. stop 3 (too-many s due m tag len e d f3) (inr (n1, inr (n2, inl (f3, refl, refl)))))
     (λ n3. by-test (not (fitsTable tag len))
-    (λ f4. stop 4 (not-in-table s due m h l d n3 (not-true (fitsTable tag len) f4)) (inr (n1, inr (n2, inr (n3, inl (f4, refl, refl))))))
-    (λ n4. go (a-field s due m h l d n3 (not-false (fitsTable tag len) n4)) (n1, (n2, (n3, (n4, tt))))))))
+    (λ f4. stop 4 (not-in-table s due m tag len e d n3 (not-true (fitsTable tag len) f4)) (inr (n1, inr (n2, inr (n3, inl (f4, refl, refl))))))
+    (λ n4. go (a-field s due m tag len e d n3 (not-false (fitsTable tag len) n4)) (n1, (n2, (n3, (n4, tt))))))))
+
+-- ---- a field
+
+-- what a body tells agrees with its tests
+abbrev BodyTells : ℕ → Taken → List Test → Type 0
+BodyTells at (Denied c) column = FirstFails column c at
+BodyTells at Good column = NoneFails column
+
+body-behind : (at : ℕ) (t : Taken) (x : Test) (column : List Test) → x .fails ≡ false → BodyTells at t column → BodyTells at t (x ∷ column)
+body-behind at (Denied c) x column n y = inr (n, y)
+body-behind at Good x column n y = (n, y)
+
+-- a field tells what its header's tests tell, and then what its body tells
+field-tells : (file : List ℕ) (at due : ℕ) (told : List ℕ → Taken) (made : List ℕ → Set) (rest : List Test)
+    → (headerOf (drop at file) due 0 ≡ Field (getD (drop at file) 0 0) (bodyLength (drop at file)) → BodyTells at (told (bodyAt file at)) rest)
+    → Tells (fieldAt file at due told made) (headerTests file at due 0 ++ rest)
+field-tells file at due told made rest f =
+    let head = headerTests file at due 0 in
+    let len = bodyLength (drop at file) in
+    let body = bodyAt file at in
+    by-header file at due 0
+    (λ c h x. tells-front (fieldAt file at due told made) head rest c at (ap (fieldBy file at told made) h) x)
+    (λ h x. tells-behind (fieldAt file at due told made) (fieldDone at len (told body) (made body)) head rest (ap (fieldBy file at told made) h) x (go len (told body) (made body) (f h)))
+  where
+    go : (len : ℕ) (t : Taken) (s : Set) → BodyTells at t rest → Tells (fieldDone at len t s) rest
+    go len (Denied c) s x = x
+    go len Good s x = x
+
+-- the length of a body that is within the file
+body-length : (s : List ℕ) (due m tag len : ℕ) → headerOf s due m ≡ Field tag len → length (bodyOf s len) ≡ len
+body-length s due m tag len h = let w = found s due m tag len h .within in simp (length-take, length-drop) (omega arith)
 
 -- ---- the counts
 
 counts-tell : (file : List ℕ) → Tells (countsAt file) (countsTests file)
 unfolding countsAt countsTests
 counts-tell file =
-    let r = getD (bodyAt file 0) 0 0 in
-    let n = getD (bodyAt file 0) 1 0 in
-    let head = headerTests file 0 0x01 0 in
-    let last = test 5 0 (not (every (countTests r n 0))) ∷ [] in
-    by-header file 0 0x01 0
-    (λ c h x. tells-front (countsAt file) head last c 0 (ap (countsGiven file) h) x)
-    (λ h x. tells-behind (countsAt file) (cond (every (countTests r n 0)) (goingOn (3 + bodyLength file) (ofCounts r n)) (refusal 5 0)) head last
-    (ap (countsGiven file) h) x (go (every (countTests r n 0)) (3 + bodyLength file) (ofCounts r n)))
+    field-tells file 0 0x01 countsTold countsMade (test 5 0 (not (every (countTests (getD (bodyAt file 0) 0 0) (getD (bodyAt file 0) 1 0) 0))) ∷ [])
+    (λ h. go (every (countTests (getD (bodyAt file 0) 0 0) (getD (bodyAt file 0) 1 0) 0)))
   where
-    go : (b : Bool) (at : ℕ) (s : Set) → Tells (cond b (goingOn at s) (refusal 5 0)) (test 5 0 (not b) ∷ [])
-    go true at s = (refl, tt)
-    go false at s = inl (refl, refl, refl)
+    go : (b : Bool) → BodyTells 0 (goodIf b 5) (test 5 0 (not b) ∷ [])
+    go true = (refl, tt)
+    go false = inl (refl, refl, refl)
 
 -- ---- names
 
--- a name of 1 to 8 bytes, by its tests
-by-name : {C : Type 0} (at : ℕ) (s : Set) (i j : ℕ) (bytes : List ℕ) → 1 ≤ length bytes → length bytes ≤ 8
-    → ((got : Spelled) → spelling bytes ≡ got → got .good ≡ false → FirstFails (nameTests at s i j bytes) 7 at → C)
-    → ((got : Spelled) → spelling bytes ≡ got → got .good ≡ true → isUsed (s .reads) i (s .outputs) j (got .name) ≡ true → FirstFails (nameTests at s i j bytes) 8 at → C)
-    → ((got : Spelled) → spelling bytes ≡ got → got .good ≡ true → isUsed (s .reads) i (s .outputs) j (got .name) ≡ false → NoneFails (nameTests at s i j bytes) → C)
-    → C
+-- a name of 1 to 8 bytes
+name-tells : (at : ℕ) (s : Set) (i j : ℕ) (bytes : List ℕ) → 1 ≤ length bytes → length bytes ≤ namePlaces
+    → BodyTells at (nameField (isUsed (s .reads) i (s .outputs) j) bytes .taken) (nameTests at s i j bytes)
 unfolding nameTests
-by-name at s i j bytes low high bad used good =
+name-tells at s i j bytes low high =
+    let used = isUsed (s .reads) i (s .outputs) j in
+    let told : (f : NameField) → nameField used bytes ≡ f → BodyTells at (f .taken) (nameTests at s i j bytes) → BodyTells at (nameField used bytes .taken) (nameTests at s i j bytes) =
+    λ f e x. subst (λ (g : NameField). BodyTells at (g .taken) (nameTests at s i j bytes)) (sym e) x in
     by-test (not (allNameBytes bytes))
-    (λ f7. bad _ (sym (spell-strange bytes (not-true (allNameBytes bytes) f7))) refl (inl (f7, refl, refl)))
+    (λ f7. told _ (name-bad used bytes _ (spell-strange bytes (not-true (allNameBytes bytes) f7)) refl) (inl (f7, refl, refl)))
     (λ n7.
-    let e = sym (spell-name bytes low high (not-false (allNameBytes bytes) n7)) in
-    by-test (isUsed (s .reads) i (s .outputs) j (padded bytes))
-    (λ f8. used _ e refl f8 (inr (n7, inl (f8, refl, refl))))
-    (λ n8. good _ e refl n8 (n7, (n8, tt))))
-
--- the length of a body that is within the file
-body-length : (s : List ℕ) (due m tag len : ℕ) → headerOf s due m ≡ Field tag len → length (bodyOf s len) ≡ len
-body-length s due m tag len h = let w = found s due m tag len h .within in simp (length-take, length-drop) (omega arith)
+    let e = spell-name bytes low high (not-false (allNameBytes bytes) n7) in
+    by-test (used (padded bytes))
+    (λ f8. told _ (name-used used bytes _ e refl f8) (inr (n7, inl (f8, refl, refl))))
+    (λ n8. told _ (name-good used bytes _ e refl n8) (n7, (n8, tt))))
 
 -- ---- read points
 
-kind-known : (s : Set) (i kind index : ℕ) → kindFits s i kind index ≡ true → (k : Kind) × (kindOf s i kind index ≡ Known k)
+kind-known : (s : Set) (i kind index : ℕ) → kindFits s i kind index ≡ true → (k : Kind) × (kindOf (s .n) (sensorAt (s .reads)) i kind index ≡ Known k)
 unfolding kindFits kindOf
 kind-known s i kind index e =
     by-test (eqb kind 0)
@@ -172,7 +173,7 @@ kind-known s i kind index e =
     (λ c. by-test (ltb index i && isSensor (readPoint (s .reads) index .kind)) (λ d. (PastSensor index, rw (a, b, c, d))) (λ d. clash e (rw (a, b, c, d))))
     (λ c. clash e (rw (a, b, c)))))
 
-kind-bad : (s : Set) (i kind index : ℕ) → kindFits s i kind index ≡ false → kindOf s i kind index ≡ Bad
+kind-bad : (s : Set) (i kind index : ℕ) → kindFits s i kind index ≡ false → kindOf (s .n) (sensorAt (s .reads)) i kind index ≡ Bad
 unfolding kindFits kindOf
 kind-bad s i kind index e =
     let f0 = or-false (eqb kind 0 && eqb index 0) _ e in
@@ -186,68 +187,45 @@ kind-bad s i kind index e =
     (λ c. rw (a, b, c))))
 
 read-tells : (file : List ℕ) (at : ℕ) (s : Set) (i : ℕ) → Tells (readAt file at s i) (readTests file at s i)
-unfolding readAt readTests readField
+unfolding readAt readTests readOf
 read-tells file at s i =
-    let head = headerTests file at 0x02 0 in
     let body = bodyAt file at in
     let len = bodyLength (drop at file) in
-    let bytes = drop 2 body in
-    let names = nameTests at s i 0 bytes in
     let kind = getD body 0 0 in
     let index = getD body 1 0 in
+    let names = nameTests at s i 0 (drop 2 body) in
     let six = test 6 at (not (kindFits s i kind index)) in
-    by-header file at 0x02 0
-    (λ c h x. tells-front (readAt file at s i) head (six ∷ names) c at (ap (readGiven file at s i) h) x)
-    (λ h x.
-    let done : (f : ReadField) → readField body s i ≡ f → readAt file at s i ≡ readDone at len s i (f .point) (f .read) =
-    λ f e. ap (readGiven file at s i) h ∙ ap (λ (g : ReadField). readDone at len s i (g .point) (g .read)) e in
+    let used = isUsed (s .reads) i (s .outputs) 0 in
+    let got = readField (s .n) (sensorAt (s .reads)) used i in
+    let told : (f : ReadField) → got body ≡ f → BodyTells at (f .taken) (six ∷ names) → BodyTells at (got body .taken) (six ∷ names) =
+    λ f e x. subst (λ (g : ReadField). BodyTells at (g .taken) (six ∷ names)) (sym e) x in
+    field-tells file at 0x02 (λ b. got b .taken) (λ b. withRead s i (got b .read)) (six ∷ names)
+    (λ h.
     let long = body-length (drop at file) 2 0 (getD (drop at file) 0 0) len h in
     let bounds = read-length (drop at file) (getD (drop at file) 0 0) len h in
     let rest = length-drop 2 body in
     by-test (not (kindFits s i kind index))
-    (λ f6. tells-behind (readAt file at s i) (refusal 6 at) head (six ∷ names)
-    (done (deniedRead 6) (ap (readTold body s i) (kind-bad s i kind index (not-true (kindFits s i kind index) f6)))) x (inl (f6, refl, refl)))
+    (λ f6. told _ (read-bad (s .n) (sensorAt (s .reads)) used i body (kind-bad s i kind index (not-true (kindFits s i kind index) f6))) (inl (f6, refl, refl)))
     (λ n6.
     let k = kind-known s i kind index (not-false (kindFits s i kind index) n6) in
-    let named : (got : Spelled) → spelling bytes ≡ got → readField body s i ≡ readNamed s i (k .0) got =
-    λ got e. ap (readTold body s i) (k .1) ∙ ap (readNamed s i (k .0)) e in
-    by-name at s i 0 bytes (omega arith) (omega arith)
-    (λ got e g y. tells-behind (readAt file at s i) (refusal 7 at) head (six ∷ names) (done (deniedRead 7) (named got e ∙ rw g)) x (inr (n6, y)))
-    (λ got e g u y. tells-behind (readAt file at s i) (refusal 8 at) head (six ∷ names) (done (deniedRead 8) (named got e ∙ rw (g, u))) x (inr (n6, y)))
-    (λ got e g u y. tells-behind (readAt file at s i) _ head (six ∷ names)
-    (done (record { point = Good; read = record { kind = k .0; name = got .name } }) (named got e ∙ rw (g, u))) x (n6, y))))
+    told _ (read-known (s .n) (sensorAt (s .reads)) used i body (k .0) (nameField used (drop 2 body)) (k .1) refl)
+    (body-behind at (nameField used (drop 2 body) .taken) six names n6 (name-tells at s i 0 (drop 2 body) (omega arith) (omega arith)))))
 
 -- ---- outputs
 
 output-tells : (file : List ℕ) (at : ℕ) (s : Set) (j : ℕ) → Tells (outputAt file at s j) (outputTests file at s j)
-unfolding outputAt outputTests outputField
+unfolding outputAt outputTests outputOf
 output-tells file at s j =
-    let head = headerTests file at 0x03 0 in
     let body = bodyAt file at in
     let len = bodyLength (drop at file) in
-    let names = nameTests at s (s .r) j body in
-    by-header file at 0x03 0
-    (λ c h x. tells-front (outputAt file at s j) head names c at (ap (outputGiven file at s j) h) x)
-    (λ h x.
-    let done : (f : OutputField) → outputField body s j ≡ f → outputAt file at s j ≡ outputDone at len s j (f .point) (f .output) =
-    λ f e. ap (outputGiven file at s j) h ∙ ap (λ (g : OutputField). outputDone at len s j (g .point) (g .output)) e in
+    let got = nameField (isUsed (s .reads) (s .r) (s .outputs) j) in
+    field-tells file at 0x03 (λ b. got b .taken) (λ b. withOutput s j (got b .name)) (nameTests at s (s .r) j body)
+    (λ h.
     let long = body-length (drop at file) 3 0 (getD (drop at file) 0 0) len h in
     let bounds = output-length (drop at file) (getD (drop at file) 0 0) len h in
-    let named : (got : Spelled) → spelling body ≡ got → outputField body s j ≡ outputNamed s j got = λ got e. ap (outputNamed s j) e in
-    by-name at s (s .r) j body (omega arith) (omega arith)
-    (λ got e g y. tells-behind (outputAt file at s j) (refusal 7 at) head names (done (deniedOutput 7) (named got e ∙ rw g)) x y)
-    (λ got e g u y. tells-behind (outputAt file at s j) (refusal 8 at) head names (done (deniedOutput 8) (named got e ∙ rw (g, u))) x y)
-    (λ got e g u y. tells-behind (outputAt file at s j) _ head names (done (record { point = Good; output = record { name = got .name } }) (named got e ∙ rw (g, u))) x y))
+    name-tells at s (s .r) j body (omega arith) (omega arith))
 
 -- ---- literals
-
-abbrev TellsLiterals : ℕ → Taken → List Test → Type 0
-TellsLiterals at (Failed c) column = FirstFails column c at
-TellsLiterals at Passed column = NoneFails column
-
-literals-behind : (at : ℕ) (t : Taken) (x : Test) (column : List Test) → x .fails ≡ false → TellsLiterals at t column → TellsLiterals at t (x ∷ column)
-literals-behind at (Failed c) x column n y = inr (n, y)
-literals-behind at Passed x column n y = (n, y)
 
 -- each read literal that passes 9 is of a read place
 abbrev ReadsWithin : ℕ → ℕ → List Said → Type 0
@@ -284,11 +262,11 @@ eleven l next later low h = go (l .out) low h
 abbrev withEleven : ℕ → ℕ → ℕ → ℕ → List Said → List Test
 withEleven at r n next said = literalTests at r n next said ++ (test 11 at (leb next mostReads && not (namesOutput said)) ∷ [])
 
-literals-tell : (at r n next : ℕ) (c : Constraint) (said : List Said) → ReadsWithin r n said → TellsLiterals at (literalsFrom r n next c said .taken) (withEleven at r n next said)
+literals-tell : (at r n next : ℕ) (c : Constraint) (said : List Said) → ReadsWithin r n said → BodyTells at (literalsFrom r n next c said .taken) (withEleven at r n next said)
 unfolding literalsFrom literalTests namesOutput
 literals-tell at r n next c [] within = go (leb next mostReads)
   where
-    go : (b : Bool) → TellsLiterals at (cond b (refusedLiterals 11) (goodLiterals c) .taken) (test 11 at (b && true) ∷ [])
+    go : (b : Bool) → BodyTells at (cond b (refusedLiterals 11) (goodLiterals c) .taken) (test 11 at (b && true) ∷ [])
     go true = inl (refl, refl, refl)
     go false = (refl, tt)
 literals-tell at r n next c (l ∷ rest) within =
@@ -300,19 +278,19 @@ literals-tell at r n next c (l ∷ rest) within =
     behind-two : List Test
     behind-two = literalTests at r n (place l + 1) rest ++ (test 11 at (leb next mostReads && not (l .out || namesOutput rest)) ∷ [])
 
-    go : (literal below : Bool) → isLiteral l r n ≡ literal → ltb (place l) next ≡ below → TellsLiterals at (others .taken) (withEleven at r n (place l + 1) rest)
-        → TellsLiterals at (literalThen literal (leb next (place l)) others .taken) (test 9 at (not literal) ∷ test 10 at below ∷ behind-two)
+    go : (literal below : Bool) → isLiteral l r n ≡ literal → ltb (place l) next ≡ below → BodyTells at (others .taken) (withEleven at r n (place l + 1) rest)
+        → BodyTells at (literalThen literal (leb next (place l)) others .taken) (test 9 at (not literal) ∷ test 10 at below ∷ behind-two)
     go false below i e x = inl (refl, refl, refl)
     go true true i e x =
-        subst (λ (b : Bool). TellsLiterals at (literalThen true b others .taken) (test 9 at false ∷ test 10 at true ∷ behind-two))
+        subst (λ (b : Bool). BodyTells at (literalThen true b others .taken) (test 9 at false ∷ test 10 at true ∷ behind-two))
         (sym (lt-leb next (place l) (ltb-true (place l) next e))) (inr (refl, inl (refl, refl, refl)))
     go true false i e x =
         let h : next ≤ place l = ltb-false (place l) next e in
-        let y = subst (λ (b : Bool). TellsLiterals at (others .taken) (literalTests at r n (place l + 1) rest ++ (test 11 at b ∷ [])))
+        let y = subst (λ (b : Bool). BodyTells at (others .taken) (literalTests at r n (place l + 1) rest ++ (test 11 at b ∷ [])))
         (sym (eleven l next (namesOutput rest) (within .0 i) h)) x in
-        subst (λ (b : Bool). TellsLiterals at (literalThen true b others .taken) (test 9 at false ∷ test 10 at false ∷ behind-two)) (sym (le-leb next (place l) h))
-        (literals-behind at (others .taken) (test 9 at false) (test 10 at false ∷ behind-two) refl
-        (literals-behind at (others .taken) (test 10 at false) behind-two refl y))
+        subst (λ (b : Bool). BodyTells at (literalThen true b others .taken) (test 9 at false ∷ test 10 at false ∷ behind-two)) (sym (le-leb next (place l) h))
+        (body-behind at (others .taken) (test 9 at false) (test 10 at false ∷ behind-two) refl
+        (body-behind at (others .taken) (test 10 at false) behind-two refl y))
 
 -- ---- constraints and the end
 
@@ -326,9 +304,9 @@ constraint-tells file at s = go (got .taken) (literals-tell at (s .r) (s .n) 0 _
     got : Literals
     got = literalsOf (s .r) (s .n) (bodyAt file at)
 
-    go : (t : Taken) → TellsLiterals at t (withEleven at (s .r) (s .n) 0 said) → Tells (constraintDone at (bodyLength (drop at file)) s t (got .made)) (withEleven at (s .r) (s .n) 0 said)
-    go (Failed c) x = x
-    go Passed x = x
+    go : (t : Taken) → BodyTells at t (withEleven at (s .r) (s .n) 0 said) → Tells (fieldDone at (bodyLength (drop at file)) t (withConstraint s (got .made))) (withEleven at (s .r) (s .n) 0 said)
+    go (Denied c) x = x
+    go Good x = x
 
 end-tells : (file : List ℕ) (at : ℕ) (s : Set) → Tells (endAt file at s) (endTests file at)
 unfolding endTests
@@ -381,23 +359,10 @@ unfolding loadFrom loadTests
 load-tells file =
     then-tells (countsAt file) (countsTests file) (afterCounts file) (readsOn file) (counts-tell file)
     (λ a s. then-tells (readsFrom file (s .r) 0 a s) (readsTests file (s .r) 0 a s) (afterReads file) (outputsOn file) (reads-tell file (s .r) 0 a s)
-    (λ b t. then-tells (outputsFrom file (t .n) 0 b t) (outputsTests file (t .n) 0 b t) (constraintsFrom file 65) (constraintsTests file 65) (outputs-tell file (t .n) 0 b t)
-    (λ d u. constraints-tell file 65 d u)))
+    (λ b t. then-tells (outputsFrom file (t .n) 0 b t) (outputsTests file (t .n) 0 b t) (constraintsFrom file (suc mostConstraints)) (constraintsTests file (suc mostConstraints)) (outputs-tell file (t .n) 0 b t)
+    (λ d u. constraints-tell file (suc mostConstraints) d u)))
 
 -- ---- the answer
-
--- a column has one first test that fails, and it is not so that none fails
-first-once : (column : List Test) (c o d p : ℕ) → FirstFails column c o → FirstFails column d p → (c ≡ d) × (o ≡ p)
-first-once [] c o d p x y = absurd x
-first-once (t ∷ column) c o d p (inl x) (inl y) = (sym (x .1) ∙ y .1, sym (x .2) ∙ y .2)
-first-once (t ∷ column) c o d p (inl x) (inr y) = clash (x .0) (y .0)
-first-once (t ∷ column) c o d p (inr x) (inl y) = clash (y .0) (x .0)
-first-once (t ∷ column) c o d p (inr x) (inr y) = first-once column c o d p (x .1) (y .1)
-
-none-first : (column : List Test) (c o : ℕ) → NoneFails column → FirstFails column c o → ⊥
-none-first [] c o n x = x
-none-first (t ∷ column) c o n (inl x) = clash (x .0) (n .0)
-none-first (t ∷ column) c o n (inr x) = none-first column c o (n .1) (x .1)
 
 -- A file is refused with a number and an offset exactly when the first of its tests that fails has them.
 pub load-refused : (file : List ℕ) (c o : ℕ) → (loadTold (loadOf file .answer) ≡ c ∷ o ∷ []) ↔ FirstFails (loadTests file) c o

@@ -1,4 +1,5 @@
 pub mod LoadLaws
-pub mod LoadKeeps
-pub mod ColumnLaws
+pub mod WayLaws
+pub mod RunLaws
 pub mod RefusedZero
+pub mod ColumnLaws

@@ -13,21 +13,19 @@ use Rattle.words.specs.Loop.{every}
 use Rattle.words.proofs.BoolLaws.{every-at}
 use Rattle.scan.specs.declared.set.Constraint.{Constraint}
 use Rattle.scan.specs.declared.set.Set.{Set}
-use Rattle.scan.specs.Set.{zeroSet}
+use Rattle.scan.specs.Set.{mostConstraints, zeroSet}
 use Rattle.scan.specs.Shape.{countTests}
 use Rattle.header.specs.declared.header.Header.{Header}
 use Rattle.header.specs.declared.header.Header.the-variants.{Refused as Stopped, Field}
-use Rattle.loader.specs.declared.point.Point.{Point}
-use Rattle.loader.specs.declared.point.Point.the-variants.{Refused as Denied, Good}
-use Rattle.literal.specs.declared.literal.Taken.{Taken}
-use Rattle.literal.specs.declared.literal.Taken.the-variants.{Refused as Failed, Good as Passed}
+use Rattle.header.specs.declared.numbers.Taken.{Taken}
+use Rattle.header.specs.declared.numbers.Taken.the-variants.{Refused as Denied, Good}
 use Rattle.loader.specs.declared.loader.Progress.{Progress}
 use Rattle.loader.specs.declared.loader.Progress.the-variants.{At, Refused}
-use Rattle.loader.specs.declared.loader.Loading.{Loading}
 use Rattle.loader.specs.declared.loader.LoadAnswer.the-variants.{Loaded, Refused as WasRefused}
 use Rattle.header.specs.Header.{headerOf, bodyOf}
 use Rattle.literal.specs.Literal.{literalsOf}
-use Rattle.loader.specs.Load.{refusal, goingOn, thenFrom, andThen, ofCounts, countsGiven, countsAt, readField, readDone, readGiven, readAt, readsFrom, outputField, outputDone, outputGiven, outputAt, outputsFrom, constraintDone, constraintAt, endAt, constraintsGiven, constraintsFrom, afterCounts, afterReads, answerOf, loadFrom, loadOf}
+use Rattle.loader.specs.Load.{Loading, refusal, goingOn, thenFrom, andThen, fieldDone, fieldBy, goodIf, countsTold, countsMade, countsAt, readOf, withRead, readAt, readsFrom}
+use Rattle.loader.specs.Load.{outputOf, withOutput, outputAt, outputsFrom, withConstraint, constraintAt, endAt, constraintsGiven, constraintsFrom, afterCounts, afterReads, answerOf, loadFrom, loadOf}
 
 -- a refusal has the zero set, and a set on its way has an output
 abbrev Shown : Progress → Set → Type 0
@@ -49,23 +47,27 @@ cond-shows : (b : Bool) (l m : Loading) → (b ≡ true → Shows l) → Shows m
 cond-shows true l m h f = h refl
 cond-shows false l m h f = f
 
-counts-show : (s : List ℕ) (h : Header) → Shows (countsGiven s h)
+-- so with a field, where what its body gives has an output if it is good
+field-shows : (file : List ℕ) (at : ℕ) (told : List ℕ → Taken) (made : List ℕ → Set) → ((body : List ℕ) → told body ≡ Good → 1 ≤ made body .n) → (h : Header) → Shows (fieldBy file at told made h)
+field-shows file at told made f (Stopped number) = refl
+field-shows file at told made f (Field tag len) = go (told body) refl
+  where
+    body : List ℕ
+    body = bodyOf (drop at file) len
+
+    go : (t : Taken) → told body ≡ t → Shows (fieldDone at len t (made body))
+    go (Denied number) e = refl
+    go Good e = f body e
+
+counts-show : (s : List ℕ) (h : Header) → Shows (fieldBy s 0 countsTold countsMade h)
 unfolding countTests
-counts-show s (Stopped number) = refl
-counts-show s (Field tag len) =
-    let r = getD (bodyOf s len) 0 0 in
-    let n = getD (bodyOf s len) 1 0 in
-    cond-shows (every (countTests r n 0)) (goingOn (3 + len) (ofCounts r n)) (refusal 5 0) (λ e. leb-true 1 n (every-at (countTests r n 0) e 1)) refl
-
--- by the header, and by what a body says
-
-by-header : (given : Header → Loading) → ((number : ℕ) → Shows (given (Stopped number))) → ((tag len : ℕ) → Shows (given (Field tag len))) → (h : Header) → Shows (given h)
-by-header given f g (Stopped number) = f number
-by-header given f g (Field tag len) = g tag len
-
-by-point : (done : Point → Loading) → ((number : ℕ) → Shows (done (Denied number))) → Shows (done Good) → (t : Point) → Shows (done t)
-by-point done f g (Denied number) = f number
-by-point done f g Good = g
+counts-show s =
+    field-shows s 0 countsTold countsMade
+    (λ b e. let tests = countTests (getD b 0 0) (getD b 1 0) 0 in leb-true 1 (getD b 1 0) (every-at tests (good (every tests) e) 1))
+  where
+    good : (b : Bool) → goodIf b 5 ≡ Good → b ≡ true
+    good true e = refl
+    good false e = let w : _≡_ {A = ℕ} 0 1 = cc in absurd (omega arith)
 
 -- so with one point after another
 points-show : (from : ℕ → ℕ → ℕ → Set → Loading) (one : ℕ → Set → ℕ → Loading) → ((i at : ℕ) (s : Set) → from 0 i at s ≡ goingOn at s)
@@ -79,17 +81,13 @@ reads-show : (file : List ℕ) (left i at : ℕ) (s : Set) → 1 ≤ s .n → Sh
 unfolding readsFrom readAt
 reads-show file =
     points-show (readsFrom file) (readAt file) (λ i at s. refl) (λ left i at s. refl)
-    (λ i at s e. by-header (readGiven file at s i) (λ number. refl)
-    (λ tag len. let f = readField (bodyOf (drop at file) len) s i in by-point (λ (t : Point). readDone at len s i t (f .read)) (λ number. refl) e (f .point))
-    (headerOf (drop at file) 2 0))
+    (λ i at s e. field-shows file at (λ b. readOf s i b .taken) (λ b. withRead s i (readOf s i b .read)) (λ b g. e) (headerOf (drop at file) 2 0))
 
 outputs-show : (file : List ℕ) (left j at : ℕ) (s : Set) → 1 ≤ s .n → Shows (outputsFrom file left j at s)
 unfolding outputsFrom outputAt
 outputs-show file =
     points-show (outputsFrom file) (outputAt file) (λ j at s. refl) (λ left j at s. refl)
-    (λ j at s e. by-header (outputGiven file at s j) (λ number. refl)
-    (λ tag len. let f = outputField (bodyOf (drop at file) len) s j in by-point (λ (t : Point). outputDone at len s j t (f .output)) (λ number. refl) e (f .point))
-    (headerOf (drop at file) 3 0))
+    (λ j at s e. field-shows file at (λ b. outputOf s j b .taken) (λ b. withOutput s j (outputOf s j b .name)) (λ b g. e) (headerOf (drop at file) 3 0))
 
 constraint-shows : (s : List ℕ) (at len : ℕ) (set : Set) → 1 ≤ set .n → Shows (constraintAt s at len set)
 unfolding constraintAt
@@ -98,9 +96,9 @@ constraint-shows s at len set e = go (literalsOf (set .r) (set .n) (bodyOf (drop
     c : Constraint
     c = literalsOf (set .r) (set .n) (bodyOf (drop at s) len) .made
 
-    go : (t : Taken) → Shows (constraintDone at len set t c)
-    go (Failed number) = refl
-    go Passed = e
+    go : (t : Taken) → Shows (fieldDone at len t (withConstraint set c))
+    go (Denied number) = refl
+    go Good = e
 
 given-shows : (s : List ℕ) (at : ℕ) (set : Set) (next : ℕ → Set → Loading) → 1 ≤ set .n → ((a : ℕ) (t : Set) → 1 ≤ t .n → Shows (next a t)) → (h : Header) → Shows (constraintsGiven s at set next h)
 given-shows s at set next e f (Stopped number) = refl
@@ -123,8 +121,8 @@ unfolding loadFrom countsAt
 load-shows file =
     then-shows (countsAt file) (afterCounts file) (counts-show file (headerOf file 1 0))
     (λ a s e. then-shows (readsFrom file (s .r) 0 a s) (afterReads file) (reads-show file (s .r) 0 a s e)
-    (λ b t f. then-shows (outputsFrom file (t .n) 0 b t) (constraintsFrom file 65) (outputs-show file (t .n) 0 b t f)
-    (λ d u g. constraints-show file 65 d u g)))
+    (λ b t f. then-shows (outputsFrom file (t .n) 0 b t) (constraintsFrom file (suc mostConstraints)) (outputs-show file (t .n) 0 b t f)
+    (λ d u g. constraints-show file (suc mostConstraints) d u g)))
 
 -- A refused load carries the zero set.
 pub refused-zero : (file : List ℕ) (c o : ℕ) → loadOf file .answer ≡ WasRefused c o → loadOf file .set ≡ zeroSet

@@ -1,11 +1,9 @@
 -- Loading as one column of tests, document 01's "What each operation turns down": every test that a file meets, front to back, in each field the
 -- lower number first, with the offset that its refusal gives. Behind a field the column goes on only where the field is taken.
 -- Assumes nothing.
-use mathlib.Core.Path.{_≡_}
 use Prim.Native.Nat.{ℕ, zero, suc, _+_}
 use mathlib.Core.Bool.{Bool, true, false, cond, not, _&&_, _||_}
 use mathlib.Core.List.{List, [], _∷_, _++_}
-use mathlib.Core.Logic.{_⊎_}
 use lib.Dec.{ltb, leb, eqb}
 use lib.ListN.{length, getD, drop}
 use Rattle.words.specs.Loop.{every}
@@ -15,34 +13,13 @@ use Rattle.scan.specs.Names.{allNameBytes, padded, isUsed}
 use Rattle.scan.specs.Shape.{countTests, isSensor}
 use Rattle.loader.specs.declared.loader.Progress.{Progress}
 use Rattle.loader.specs.declared.loader.Progress.the-variants.{At, Refused}
-use Rattle.loader.specs.declared.loader.Loading.{Loading}
-use Rattle.header.specs.Header.{fitsTable, isDue, bodyLength, bodyOf}
+use Rattle.header.specs.Test.{Test, test}
+use Rattle.header.specs.Header.{fitsTable, isDue, isCut, bodyLength, bodyOf}
 use Rattle.literal.specs.declared.literal.Said.{Said}
 use Rattle.literal.specs.Literal.{narrows, place, isLiteral}
-use Rattle.loader.specs.Load.{countsAt, readAt, readsFrom, outputAt, outputsFrom, constraintAt}
+use Rattle.loader.specs.Load.{Loading, countsAt, readAt, readsFrom, outputAt, outputsFrom, constraintAt}
 
 -- ---- columns
-
--- a test: the number and the offset of its refusal, and whether the file is refused by it
-pub record Test : Type 0 where
-  pub number : ℕ
-  pub offset : ℕ
-  pub fails : Bool
-
--- a test by its three parts
-abbrev pub test : ℕ → ℕ → Bool → Test
-test number offset fails = record { number = number; offset = offset; fails = fails }
-
--- the first test of the column that fails has this number and offset
-abbrev pub FirstFails : List Test → ℕ → ℕ → Type 0
-FirstFails [] number offset = ⊥
-FirstFails (t ∷ column) number offset =
-    ((t .fails ≡ true) × (t .number ≡ number) × (t .offset ≡ offset)) ⊎ ((t .fails ≡ false) × FirstFails column number offset)
-
--- no test of the column fails
-abbrev pub NoneFails : List Test → Type 0
-NoneFails [] = Unit {0}
-NoneFails (t ∷ column) = (t .fails ≡ false) × NoneFails column
 
 -- the tests from a place on, with the set so far; none behind a refusal
 abbrev pub behindPlace : Progress → Set → (ℕ → Set → List Test) → List Test
@@ -55,11 +32,11 @@ behind l tests = behindPlace (l .progress) (l .set) tests
 
 -- ---- the field at the front of what is left from `at` on
 
--- 1 header or body runs past the end; 2 tag not due; 3 a 65th constraint; 4 length not in the table
+-- 1 header or body runs past the end; 2 tag not due; 3 a constraint above the most; 4 length not in the table
 unfoldable pub headerTests : List ℕ → ℕ → ℕ → ℕ → List Test
 headerTests file at due m =
     let left = drop at file in
-    test 1 at (ltb (length left) 3 || ltb (length left) (3 + bodyLength left))
+    test 1 at (isCut left)
     ∷ test 2 at (not (isDue due (getD left 0 0)))
     ∷ test 3 at (eqb (getD left 0 0) 0x04 && leb mostConstraints m)
     ∷ test 4 at (not (fitsTable (getD left 0 0) (bodyLength left)))
@@ -134,18 +111,18 @@ tagTests file at set next tag =
     let constraint = bodyTests file at set ++ behind (constraintAt file at (bodyLength (drop at file)) set) next in
     cond (eqb tag 0x05) (endTests file at) constraint
 
--- constraints up to the end, at most `left` fields: 65 are enough, since a 65th constraint is refused
+-- constraints up to the end, at most `left` fields: one more than the most constraints is enough, since such a constraint is refused
 unfoldable pub constraintsTests : List ℕ → ℕ → ℕ → Set → List Test
 constraintsTests file zero at set = test 3 at true ∷ []
 constraintsTests file (suc left) at set =
     headerTests file at 0x04 (set .m) ++ tagTests file at set (constraintsTests file left) (getD (drop at file) 0 0)
 
--- ---- the whole file: one 0x01, r of 0x02, n of 0x03, up to 64 of 0x04, one 0x05
+-- ---- the whole file: one 0x01, r of 0x02, n of 0x03, up to `mostConstraints` of 0x04, one 0x05
 
 -- what follows the read points
 abbrev pub outputsOn : List ℕ → ℕ → Set → List Test
 outputsOn file at set =
-    outputsTests file (set .n) 0 at set ++ behind (outputsFrom file (set .n) 0 at set) (constraintsTests file 65)
+    outputsTests file (set .n) 0 at set ++ behind (outputsFrom file (set .n) 0 at set) (constraintsTests file (suc mostConstraints))
 
 -- what follows the counts
 abbrev pub readsOn : List ℕ → ℕ → Set → List Test

@@ -1,3 +1,4 @@
 pub mod Load
 pub mod Column
 pub mod Told
+pub mod way

@@ -1,26 +1,37 @@
 // Loading: the counts, then read points, outputs, constraints and the end, each field from the front of what is left.
-use super::point::Point;
-use super::point::output_field;
-use super::point::read_field;
+use super::step::output_at;
+use super::step::read_at;
 use header::BAD_COUNTS;
 use header::BYTES_FOLLOW;
 use header::Header;
 use header::TAG_CONSTRAINT;
 use header::TAG_COUNTS;
 use header::TAG_END;
-use header::TAG_OUTPUT;
-use header::TAG_READ;
+use header::Taken;
 use header::front_at;
-use literal::Taken;
 use literal::literals_of;
+use scan::Constraint;
+use scan::Kind;
+use scan::MOST_CONSTRAINTS;
+use scan::MOST_OUTPUTS;
+use scan::MOST_READS;
+use scan::NAME_PLACES;
+use scan::OutputPoint;
+use scan::ReadPoint;
 use scan::Set;
 use scan::zero_set;
+use shape::are_counts_ok;
+use shape::is_sensor;
 ghost use mathlib.Core.Path.{_≡_};
-ghost use Prim.Native.Nat.{_+_, _≤_, _<_, _%_};
-ghost use lib.ListN.{length, drop};
-ghost use Rattle.loader.specs.declared.loader.Loaded.{Loaded};
-ghost use Rattle.loader.specs.declared.loader.LoadAnswer.the-variants.{Loaded as WasLoaded};
-ghost use Rattle.loader.specs.Load.{refusal, goingOn, countsAt, readAt, outputAt, constraintAt, readsFrom, outputsFrom, constraintsFrom, afterReads, afterCounts, loadFrom, loadOf};
+ghost use mathlib.Core.List.{List};
+ghost use Prim.Native.Nat.{_+_, _≤_};
+ghost use lib.ListN.{length, replicate};
+ghost use Rattle.scan.specs.declared.set.ReadPoint.{ReadPoint};
+ghost use Rattle.scan.specs.declared.set.OutputPoint.{OutputPoint};
+ghost use Rattle.scan.specs.Set.{mostReads, mostOutputs, mostConstraints, zeroName, zeroConstraint, withReads, withOutputs};
+ghost use Rattle.shape.specs.way.Names.{ReadNames};
+ghost use Rattle.loader.specs.Load.{refusal, ofCounts, countsAt, readsFrom, outputsFrom, afterOutputs, afterReads, afterCounts, answered, loadOf};
+ghost use Rattle.loader.specs.way.Load.{reached, endPlace, pointsSet, wholeSet};
 
 // A file was loaded; or the number of the refusal and the offset of the field's first byte.
 pub enum LoadAnswer {
@@ -40,153 +51,205 @@ pub enum Progress {
     Refused(u8, usize),
 }
 
-pub struct Loading {
+// What the fields of one kind give, and how far they bring the load.
+pub struct Counts {
     pub progress: Progress,
-    pub set: Set,
+    pub r: usize,
+    pub n: usize,
 }
 
-fn refused(number: u8, at: usize) -> Loading
-    ensures { λ r. ⌜ r ≡ refusal number at ⌝ }
+pub struct Reads {
+    pub progress: Progress,
+    pub reads: [ReadPoint; MOST_READS],
+}
+
+pub struct Outputs {
+    pub progress: Progress,
+    pub outputs: [OutputPoint; MOST_OUTPUTS],
+}
+
+pub struct Constraints {
+    pub progress: Progress,
+    pub m: usize,
+    pub constraints: [Constraint; MOST_CONSTRAINTS],
+}
+
+fn no_counts(number: u8, at: usize) -> Counts
+    ensures { λ c. ⌜ reached (c .progress) (ofCounts (c .r) (c .n)) ≡ refusal number at ⌝ }
 {
-    let set = zero_set();
-    Loading {
+    Counts {
         progress: Progress::Refused(number, at),
-        set,
+        r: 0,
+        n: 0,
     }
 }
 
-fn going_on(at: usize, set: Set) -> Loading
-    ensures { λ r. ⌜ r ≡ goingOn at set ⌝ }
-{
-    Loading {
-        progress: Progress::At(at),
-        set,
-    }
-}
-
-fn counts_at(s: &[u8]) -> Loading
-    ensures { λ r. ⌜ r ≡ countsAt (now (s .entry)) ⌝ }
+fn counts_at(s: &[u8]) -> Counts
+    ensures { λ c. ⌜ reached (c .progress) (ofCounts (c .r) (c .n)) ≡ countsAt (now (s .entry)) ⌝ }
 {
     let front = front_at(s, 0, TAG_COUNTS, 0);
     let header = front.header;
     let here = front.at;
     match header {
-        Header::Refused(c) => refused(c, here),
+        Header::Refused(number) => no_counts(number, here),
         Header::Field(_, len) => {
             let r = s[here + 3] as usize;
             let n = s[here + 4] as usize;
-            if 16 < r {
-                return refused(BAD_COUNTS, here);
+            if !are_counts_ok(r, n, 0) {
+                return no_counts(BAD_COUNTS, here);
             }
-            if n < 1 {
-                return refused(BAD_COUNTS, here);
+            Counts {
+                progress: Progress::At(here + 3 + len),
+                r,
+                n,
             }
-            if 12 < n {
-                return refused(BAD_COUNTS, here);
-            }
-            if 24 < r + n {
-                return refused(BAD_COUNTS, here);
-            }
-            let mut set = zero_set();
-            set.r = r;
-            set.n = n;
-            going_on(here + 3 + len, set)
         }
     }
 }
 
-fn reads_at(s: &[u8], at: usize, set: Set) -> Loading
-    requires { ⌜ set .r ≤ 16 ⌝ }
-    ensures { λ r. ⌜ r ≡ readsFrom (now (s .entry)) (set .r) 0 at set ⌝ }
+// r read points from `at` on. Their names are put into the list that is lent.
+fn reads_at<'a>(
+    s: &'a [u8],
+    at: usize,
+    r: usize,
+    n: usize,
+    names: &'a mut [[u8; NAME_PLACES]; MOST_READS],
+) -> Reads
+    requires { ⌜ (r ≤ mostReads) × (now names ≡ replicate mostReads zeroName) ⌝ }
+    ensures { λ l. ⌜ (reached (l .progress) (withReads (ofCounts r n) (l .reads)) ≡ readsFrom (now (s .entry)) r 0 at (ofCounts r n)) × ReadNames (now (names .exit)) (l .reads) ⌝ }
 {
-    let r = set.r;
+    let none = [0u8; NAME_PLACES];
+    let kind = Kind::Sensor;
+    let zero = ReadPoint { kind, name: none };
+    let outputs = [none; MOST_OUTPUTS];
+    let mut reads = [zero; MOST_READS];
+    let mut pasts = [false; MOST_READS];
     let mut next = at;
-    let mut so_far = set;
     let mut i: usize = 0;
     while i < r {
-        let front = front_at(s, next, TAG_READ, 0);
-        let header = front.header;
-        let here = front.at;
-        match header {
-            Header::Refused(c) => return refused(c, here),
-            Header::Field(_, len) => {
-                let f = read_field(&s[here + 3..here + 3 + len], so_far, i);
-                let point = f.point;
-                match point {
-                    Point::Refused(c) => return refused(c, here),
-                    Point::Good => {
-                        let read = f.read;
-                        so_far.reads[i] = read;
-                        next = here + 3 + len;
-                    }
-                }
+        let step = read_at(s, next, n, &pasts, &*names, &outputs, i);
+        let progress = step.progress;
+        match progress {
+            Progress::Refused(_, _) => return Reads { progress, reads },
+            Progress::At(behind) => {
+                let read = step.read;
+                let name = read.name;
+                let kind = read.kind;
+                reads[i] = read;
+                names[i] = name;
+                pasts[i] = !is_sensor(kind);
+                next = behind;
             }
         }
         i = i + 1;
     }
-    going_on(next, so_far)
+    let progress = Progress::At(next);
+    Reads { progress, reads }
 }
 
-fn outputs_at(s: &[u8], at: usize, set: Set) -> Loading
-    requires { ⌜ (set .r ≤ 16) × (set .n ≤ 12) ⌝ }
-    ensures { λ r. ⌜ r ≡ outputsFrom (now (s .entry)) (set .n) 0 at set ⌝ }
+// n outputs from `at` on, behind r read points of these names.
+fn outputs_at<'a>(
+    s: &'a [u8],
+    at: usize,
+    names: &'a [[u8; NAME_PLACES]; MOST_READS],
+    r: usize,
+    n: usize,
+) -> Outputs
+    requires { ⌜ (r ≤ mostReads) × (n ≤ mostOutputs) ⌝ }
+    ensures { λ l. ⌜ ((reads : List ReadPoint) → ReadNames (now (names .entry)) reads → reached (l .progress) (withOutputs (withReads (ofCounts r n) reads) (l .outputs)) ≡ outputsFrom (now (s .entry)) n 0 at (withReads (ofCounts r n) reads)) ⌝ }
 {
-    let n = set.n;
+    let none = [0u8; NAME_PLACES];
+    let zero = OutputPoint { name: none };
+    let mut outputs = [zero; MOST_OUTPUTS];
+    let mut own = [none; MOST_OUTPUTS];
     let mut next = at;
-    let mut so_far = set;
     let mut j: usize = 0;
     while j < n {
-        let front = front_at(s, next, TAG_OUTPUT, 0);
-        let header = front.header;
-        let here = front.at;
-        match header {
-            Header::Refused(c) => return refused(c, here),
-            Header::Field(_, len) => {
-                let f = output_field(&s[here + 3..here + 3 + len], so_far, j);
-                let point = f.point;
-                match point {
-                    Point::Refused(c) => return refused(c, here),
-                    Point::Good => {
-                        let output = f.output;
-                        so_far.outputs[j] = output;
-                        next = here + 3 + len;
-                    }
-                }
+        let step = output_at(s, next, names, r, &own, j);
+        let progress = step.progress;
+        match progress {
+            Progress::Refused(_, _) => return Outputs { progress, outputs },
+            Progress::At(behind) => {
+                let name = step.name;
+                outputs[j] = OutputPoint { name };
+                own[j] = name;
+                next = behind;
             }
         }
         j = j + 1;
     }
-    going_on(next, so_far)
+    Outputs {
+        progress: Progress::At(next),
+        outputs,
+    }
 }
 
-fn constraints_at(s: &[u8], at: usize, set: Set) -> Loading
-    requires { ⌜ (set .n ≤ 12) × (set .m ≡ 0) ⌝ }
-    ensures { λ r. ⌜ r ≡ constraintsFrom (now (s .entry)) 65 at set ⌝ }
+// The place behind the end, or that bytes follow it.
+fn end_at(s: &[u8], at: usize) -> Progress
+    requires { ⌜ at + 3 ≤ length (now s) ⌝ }
+    ensures { λ p. ⌜ p ≡ endPlace (now (s .entry)) at ⌝ }
 {
+    if at + 3 < s.len() {
+        return Progress::Refused(BYTES_FOLLOW, at + 3);
+    }
+    Progress::At(at + 3)
+}
+
+fn zero_constraints() -> [Constraint; MOST_CONSTRAINTS]
+    ensures { λ l. ⌜ l ≡ replicate mostConstraints zeroConstraint ⌝ }
+{
+    let ranks = [0u8; MOST_OUTPUTS];
+    let zero = Constraint {
+        read_plain: 0,
+        read_negated: 0,
+        out_plain: 0,
+        out_negated: 0,
+        ranks,
+    };
+    [zero; MOST_CONSTRAINTS]
+}
+
+// Where constraints end: how far they bring the load, and the m that there are.
+fn ended(progress: Progress, m: usize, constraints: [Constraint; MOST_CONSTRAINTS]) -> Constraints
+    ensures { λ l. ⌜ l ≡ record { progress = progress; m = m; constraints = constraints } ⌝ }
+{
+    Constraints {
+        progress,
+        m,
+        constraints,
+    }
+}
+
+// Constraints from `at` up to the end, for a set of r read points and n outputs.
+fn constraints_at(s: &[u8], at: usize, r: usize, n: usize) -> Constraints
+    requires { ⌜ n ≤ mostOutputs ⌝ }
+    ensures { λ l. ⌜ ((reads : List ReadPoint) (outputs : List OutputPoint) → reached (l .progress) (wholeSet r n (l .m) reads outputs (l .constraints)) ≡ afterOutputs (now (s .entry)) at (pointsSet r n reads outputs)) ⌝ }
+{
+    let mut constraints = zero_constraints();
     let mut next = at;
-    let mut so_far = set;
+    let mut m: usize = 0;
     loop {
-        let front = front_at(s, next, TAG_CONSTRAINT, so_far.m);
+        let front = front_at(s, next, TAG_CONSTRAINT, m);
         let header = front.header;
         let here = front.at;
         match header {
-            Header::Refused(c) => return refused(c, here),
+            Header::Refused(number) => {
+                return ended(Progress::Refused(number, here), m, constraints);
+            }
             Header::Field(tag, len) => {
                 if tag == TAG_END {
-                    if here + 3 < s.len() {
-                        return refused(BYTES_FOLLOW, here + 3);
-                    }
-                    return going_on(here + 3, so_far);
+                    return ended(end_at(s, here), m, constraints);
                 }
-                let f = literals_of(&s[here + 3..here + 3 + len], so_far.r, so_far.n);
+                let f = literals_of(&s[here + 3..here + 3 + len], r, n);
                 let taken = f.taken;
                 match taken {
-                    Taken::Refused(c) => return refused(c, here),
+                    Taken::Refused(number) => {
+                        return ended(Progress::Refused(number, here), m, constraints);
+                    }
                     Taken::Good => {
                         let made = f.made;
-                        let m = so_far.m;
-                        so_far.constraints[m] = made;
-                        so_far.m = m + 1;
+                        constraints[m] = made;
+                        m = m + 1;
                         next = here + 3 + len;
                     }
                 }
@@ -195,64 +258,97 @@ fn constraints_at(s: &[u8], at: usize, set: Set) -> Loading
     }
 }
 
-fn after_reads(s: &[u8], at: usize, set: Set) -> Loading
-    requires { ⌜ (set .r ≤ 16) × (set .n ≤ 12) × (set .m ≡ 0) ⌝ }
-    ensures { λ r. ⌜ r ≡ afterReads (now (s .entry)) at set ⌝ }
+fn refused(number: u8, offset: usize) -> Loaded
+    ensures { λ l. ⌜ l ≡ answered (refusal number offset) ⌝ }
 {
-    let l = outputs_at(s, at, set);
-    let p = l.progress;
-    match p {
-        Progress::Refused(_, _) => l,
-        Progress::At(next) => constraints_at(s, next, l.set),
+    let set = zero_set();
+    Loaded {
+        answer: LoadAnswer::Refused { number, offset },
+        set,
     }
 }
 
-fn after_counts(s: &[u8], at: usize, set: Set) -> Loading
-    requires { ⌜ (set .r ≤ 16) × (set .n ≤ 12) × (set .m ≡ 0) ⌝ }
-    ensures { λ r. ⌜ r ≡ afterCounts (now (s .entry)) at set ⌝ }
+// What follows the outputs, and the set of them all.
+fn after_outputs(
+    s: &[u8],
+    at: usize,
+    r: usize,
+    n: usize,
+    reads: [ReadPoint; MOST_READS],
+    outputs: [OutputPoint; MOST_OUTPUTS],
+) -> Loaded
+    requires { ⌜ n ≤ mostOutputs ⌝ }
+    ensures { λ l. ⌜ l ≡ answered (afterOutputs (now (s .entry)) at (pointsSet r n reads outputs)) ⌝ }
 {
-    let l = reads_at(s, at, set);
+    let l = constraints_at(s, at, r, n);
     let p = l.progress;
     match p {
-        Progress::Refused(_, _) => l,
-        Progress::At(next) => after_reads(s, next, l.set),
+        Progress::Refused(number, offset) => refused(number, offset),
+        Progress::At(_) => {
+            let m = l.m;
+            let constraints = l.constraints;
+            let set = Set {
+                r,
+                n,
+                m,
+                reads,
+                outputs,
+                constraints,
+            };
+            let answer = LoadAnswer::Loaded;
+            Loaded { answer, set }
+        }
     }
 }
 
-// The whole file, with the place behind its last field.
-fn load_from(s: &[u8]) -> Loading
-    ensures { λ r. ⌜ r ≡ loadFrom (now (s .entry)) ⌝ }
+// What follows the read points, whose names are lent.
+fn after_reads<'a>(
+    s: &'a [u8],
+    at: usize,
+    r: usize,
+    n: usize,
+    reads: [ReadPoint; MOST_READS],
+    names: &'a [[u8; NAME_PLACES]; MOST_READS],
+) -> Loaded
+    requires { ⌜ (r ≤ mostReads) × (n ≤ mostOutputs) × ReadNames (now names) reads ⌝ }
+    ensures { λ l. ⌜ l ≡ answered (afterReads (now (s .entry)) at (withReads (ofCounts r n) reads)) ⌝ }
 {
-    let l = counts_at(s);
+    let l = outputs_at(s, at, names, r, n);
     let p = l.progress;
     match p {
-        Progress::Refused(_, _) => l,
-        Progress::At(at) => after_counts(s, at, l.set),
+        Progress::Refused(number, offset) => refused(number, offset),
+        Progress::At(next) => {
+            let outputs = l.outputs;
+            after_outputs(s, next, r, n, reads, outputs)
+        }
     }
 }
 
-// What is answered of a file that holds the set.
-fn file_taken(set: Set) -> Loaded
-    ensures { λ r. ⌜ r ≡ record { answer = WasLoaded; set = set } ⌝ }
+fn after_counts(s: &[u8], at: usize, r: usize, n: usize) -> Loaded
+    requires { ⌜ (r ≤ mostReads) × (n ≤ mostOutputs) ⌝ }
+    ensures { λ l. ⌜ l ≡ answered (afterCounts (now (s .entry)) at (ofCounts r n)) ⌝ }
 {
-    let answer = LoadAnswer::Loaded;
-    Loaded { answer, set }
+    let none = [0u8; NAME_PLACES];
+    let mut names = [none; MOST_READS];
+    let l = reads_at(s, at, r, n, &mut names);
+    let p = l.progress;
+    match p {
+        Progress::Refused(number, offset) => refused(number, offset),
+        Progress::At(next) => {
+            let reads = l.reads;
+            after_reads(s, next, r, n, reads, &names)
+        }
+    }
 }
 
 // The set that the file holds; or the refusal, beside a set with every field zero.
 pub fn load(file: &[u8]) -> Loaded
     ensures { λ r. ⌜ r ≡ loadOf (now (file .entry)) ⌝ }
 {
-    let l = load_from(file);
+    let l = counts_at(file);
     let p = l.progress;
     match p {
-        Progress::At(_) => file_taken(l.set),
-        Progress::Refused(number, offset) => {
-            let set = l.set;
-            Loaded {
-                answer: LoadAnswer::Refused { number, offset },
-                set,
-            }
-        }
+        Progress::Refused(number, offset) => refused(number, offset),
+        Progress::At(at) => after_counts(file, at, l.r, l.n),
     }
 }

@@ -27,7 +27,8 @@ use Rattle.verdict.specs.Told.{verdictTold}
 use Rattle.verdict.specs.Meaning.{Good, FirstWithout, FirstEndless, Bad}
 use Rattle.header.specs.Bytes.{Bytes}
 use Rattle.loader.specs.Load.{loadOf}
-use Rattle.loader.specs.Column.{FirstFails, NoneFails, loadTests}
+use Rattle.header.specs.Test.{FirstFails, NoneFails}
+use Rattle.loader.specs.Column.{loadTests}
 use Rattle.writer.specs.Write.{writeOf, writeAnswer, bufferAfter}
 use Rattle.loader.specs.Told.{loadTold}
 use Rattle.writer.specs.Told.{writeTold}

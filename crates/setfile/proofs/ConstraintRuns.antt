@@ -22,13 +22,13 @@ use Rattle.scan.proofs.ShapeLaws.{Masks, constraint-masks}
 use Rattle.header.specs.declared.header.Header.{Header}
 use Rattle.header.specs.declared.header.Header.the-variants.{Refused as Stopped, Field}
 use Rattle.literal.specs.declared.literal.Literals.{Literals}
-use Rattle.literal.specs.declared.literal.Taken.{Taken}
-use Rattle.literal.specs.declared.literal.Taken.the-variants.{Refused as Failed, Good as Passed}
+use Rattle.header.specs.declared.numbers.Taken.{Taken}
+use Rattle.header.specs.declared.numbers.Taken.the-variants.{Refused as Denied, Good}
 use Rattle.loader.specs.declared.loader.Progress.the-variants.{At}
 use Rattle.header.specs.Bytes.{Bytes}
 use Rattle.header.specs.Header.{headerOf, bodyOf, fitsTable}
 use Rattle.literal.specs.Literal.{narrows, goodLiterals, literalsFrom, literalsOf}
-use Rattle.loader.specs.Load.{refusal, goingOn, andThen, constraintDone, constraintGiven, constraintAt, endAt, constraintsGiven, constraintsFrom}
+use Rattle.loader.specs.Load.{refusal, goingOn, andThen, fieldDone, withConstraint, constraintGiven, constraintAt, endAt, constraintsGiven, constraintsFrom}
 use Rattle.writer.specs.Write.{fieldOf, literalBody}
 use Rattle.setfile.proofs.LiteralPlaces.{mask}
 use Rattle.setfile.proofs.BodyPlaces.{upTo, worth, saidIf, saidOf, allSaid, by-kind, upto-long}
@@ -50,7 +50,7 @@ one-said o true q k x = omega arith
 one-said o false true k x = omega arith
 one-said o false false k x = omega arith
 
-no-literals : (r n : ℕ) → literalsOf r n [] .taken ≡ Passed → ⊥
+no-literals : (r n : ℕ) → literalsOf r n [] .taken ≡ Good → ⊥
 unfolding literalsFrom narrows
 no-literals r n e = let z : _≡_ {A = ℕ} 0 1 = cc in omega arith
 
@@ -168,9 +168,9 @@ module _ (file : List ℕ) (r n : ℕ) (hr : r ≤ mostReads) (hn : n ≤ mostOu
           (here, omega arith, end-back left k at l here)
 
       by-taken : (tag len : ℕ) → headerOf (drop at file) 4 k ≡ Field tag len → eqb tag 5 ≡ false → (t : Taken) → literalsOf r n (bodyOf (drop at file) len) .taken ≡ t
-          → andThen (constraintDone at len (base k l) t (literalsOf r n (bodyOf (drop at file) len) .made)) (constraintsFrom file left) .progress ≡ At last → Move
-      by-taken tag len hd s (Failed number) t u = let z : _≡_ {A = ℕ} 0 1 = cc in absurd (omega arith)
-      by-taken tag len hd s Passed t u =
+          → andThen (fieldDone at len t (withConstraint (base k l) (literalsOf r n (bodyOf (drop at file) len) .made))) (constraintsFrom file left) .progress ≡ At last → Move
+      by-taken tag len hd s (Denied number) t u = let z : _≡_ {A = ℕ} 0 1 = cc in absurd (omega arith)
+      by-taken tag len hd s Good t u =
           let f = found file at 4 k tag len bytes hd in
           let b = bodyOf (drop at file) len in
           let c = literalsOf r n b .made in
@@ -185,8 +185,8 @@ module _ (file : List ℕ) (r n : ℕ) (hr : r ≤ mostReads) (hn : n ≤ mostOu
             field = f .whole ∙ ap₂ (λ (x : ℕ) (y : List ℕ). fieldOf x y ++ drop (at + 3 + len) file) four (sym (g .1));
             on =
                 opens (Field tag len) hd
-                ∙ ap (λ (x : Bool). cond x (endAt file at (base k l)) (andThen (constraintDone at len (base k l) (literalsOf r n b .taken) c) (constraintsFrom file left))) s
-                ∙ ap (λ (x : Taken). andThen (constraintDone at len (base k l) x c) (constraintsFrom file left)) t;
+                ∙ ap (λ (x : Bool). cond x (endAt file at (base k l)) (andThen (fieldDone at len (literalsOf r n b .taken) (withConstraint (base k l) c)) (constraintsFrom file left))) s
+                ∙ ap (λ (x : Taken). andThen (fieldDone at len x (withConstraint (base k l) c)) (constraintsFrom file left)) t;
           }
 
       by-tag : (tag len : ℕ) → headerOf (drop at file) 4 k ≡ Field tag len → (b : Bool) → eqb tag 5 ≡ b

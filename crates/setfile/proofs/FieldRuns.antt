@@ -12,7 +12,7 @@ use lib.ListN.{length, getD, take, drop, set, replicate, length-set, length-repl
 use lib.Seq.{getD-set-same, getD-set-other, take-suc-set, drop-cons, ext-getD}
 use Rattle.scan.specs.declared.set.Set.{Set}
 use Rattle.loader.specs.declared.loader.Progress.the-variants.{At}
-use Rattle.loader.specs.declared.loader.Loading.{Loading}
+use Rattle.loader.specs.Load.{Loading}
 use Rattle.writer.specs.Write.{fieldOf, fieldsOf}
 use Rattle.setfile.proofs.Fields.{after-field}
 

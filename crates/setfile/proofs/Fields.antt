@@ -9,12 +9,13 @@ use native.Mathlib.Omega.{arith}
 use lib.Dec.{leb, eqb}
 use lib.ListN.{length, getD, take, drop, drop-of-length-le, length-append, length-take, length-drop, take-append-drop}
 use lib.Seq.{take-append-seam, drop-at, drop-drop, length-take-le, getD-take, getD-drop}
-use borrow.Author.Tests.{le-leb}
+use Rattle.scan.specs.Set.{mostConstraints}
+use Rattle.header.specs.declared.header.RawField.the-variants.{Field as Whole}
 use Rattle.header.specs.declared.header.Header.the-variants.{Field}
 use Rattle.header.specs.Bytes.{Bytes}
-use Rattle.header.specs.Header.{fitsTable, isDue, bodyLength, headerOf, bodyOf}
+use Rattle.header.specs.Header.{bodyLength, rawOf, bodyOf, fitsTable, isDue, headerOf}
 use Rattle.writer.specs.Write.{fieldOf}
-use Rattle.header.proofs.HeaderLaws.{found as header-found}
+use Rattle.header.proofs.HeaderLaws.{not-cut, raw-field, a-field, found as header-found}
 
 -- ---- bytes
 
@@ -50,15 +51,14 @@ module _ (tag : ℕ) (body rest : List ℕ) where
   body-back = take-append-seam body rest
 
   -- Its header is found, where its tag is due and its length in the table.
-  pub field-back : (due m : ℕ) → isDue due tag ≡ true → (eqb tag 4 && leb 64 m) ≡ false → fitsTable tag (length body) ≡ true
+  pub field-back : (due m : ℕ) → isDue due tag ≡ true → (eqb tag 4 && leb mostConstraints m) ≡ false → fitsTable tag (length body) ≡ true
       → headerOf (fieldOf tag body ++ rest) due m ≡ Field tag (length body)
-  unfolding headerOf
   field-back due m d f t =
       let s = fieldOf tag body ++ rest in
       let e = length-said in
       let l = length-append body rest in
-      let u : fitsTable tag (bodyLength s) ≡ true = ap (fitsTable tag) e ∙ t in
-      simp (le-leb 3 (length s) (omega (arith, l)), le-leb (3 + bodyLength s) (length s) (omega (arith, l, e)), d, f, u) (ap (Field tag) e)
+      let there : rawOf s ≡ Whole tag (length body) = raw-field s (not-cut s (omega (arith, l)) (omega (arith, l, e))) ∙ ap (Whole tag) e in
+      a-field s due m tag (length body) there d f t
 
 -- What is left after a field.
 pub after-field : (file : List ℕ) (at tag : ℕ) (body rest : List ℕ) → drop at file ≡ fieldOf tag body ++ rest → drop (at + 3 + length body) file ≡ rest
@@ -94,7 +94,7 @@ pub record Found (file : List ℕ) (at due m tag len : ℕ) : Type 0 where
   pub long : length (bodyOf (drop at file) len) ≡ len
   pub bytes : Bytes (bodyOf (drop at file) len)
   pub awaited : isDue due tag ≡ true
-  pub few : (eqb tag 4 && leb 64 m) ≡ false
+  pub few : (eqb tag 4 && leb mostConstraints m) ≡ false
   pub table : fitsTable tag len ≡ true
 
 -- A field that was found is as it would be written.

@@ -21,7 +21,7 @@ use Rattle.scan.specs.Set.{mostReads, mostOutputs, rankEnd, rank, outs, zeroCon
 use Rattle.scan.specs.Shape.{rankOk, constraintTests}
 use Rattle.literal.specs.declared.literal.Said.{Said}
 use Rattle.literal.specs.declared.literal.Literals.{Literals}
-use Rattle.literal.specs.declared.literal.Taken.the-variants.{Good}
+use Rattle.header.specs.declared.numbers.Taken.the-variants.{Good}
 use Rattle.header.specs.Bytes.{Bytes}
 use Rattle.literal.specs.Literal.{narrows, place, isLiteral, withLiteral, refusedLiterals, goodLiterals, literalThen, literalsFrom, literalsOf}
 use Rattle.writer.specs.Write.{literalBody}

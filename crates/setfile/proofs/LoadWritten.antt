@@ -1,7 +1,7 @@
 -- The file of a well-formed set loads to the set.
 -- Assumes nothing.
 use mathlib.Core.Path.{_≡_, refl, _∙_, ap}
-use mathlib.Core.Bool.{Bool, true, cond}
+use mathlib.Core.Bool.{Bool, true}
 use mathlib.Core.List.{List, [], _∷_, _++_, append-assoc}
 use Prim.Native.Nat.{ℕ, suc, _+_, _-_, _≤_, _<_}
 use native.Mathlib.Omega.{arith}
@@ -9,12 +9,11 @@ use lib.ListN.{length, getD, take, drop}
 use borrow.Author.Tests.{le-leb}
 use Rattle.words.specs.Loop.{every}
 use Rattle.scan.specs.declared.set.Set.{Set}
-use Rattle.scan.specs.Set.{zeroSet, zeroConstraint, noConstraint, readPoint, outputPoint, constraint}
+use Rattle.scan.specs.Set.{mostReads, mostOutputs, mostPoints, mostConstraints, zeroSet, zeroConstraint, noConstraint, readPoint, outputPoint, constraint}
 use Rattle.scan.specs.Shape.{countTests, constraintTests, wellFormed}
 use Rattle.scan.proofs.ShapeLaws.{constraint-ok, counts, beyond-zero, points-formed}
 use Rattle.loader.specs.declared.loader.LoadAnswer.the-variants.{Loaded}
-use Rattle.loader.specs.declared.loader.Loading.{Loading}
-use Rattle.loader.specs.Load.{goingOn, andThen, refusal, ofCounts, countsGiven, countsAt, constraintsFrom, afterCounts, afterReads, afterOutputs, answerOf, loadFrom, loadOf}
+use Rattle.loader.specs.Load.{Loading, goingOn, andThen, fieldDone, fieldBy, ofCounts, goodIf, countsTold, countsMade, countsAt, constraintsFrom, afterCounts, afterReads, afterOutputs, answered, loadFrom, loadOf}
 use Rattle.writer.specs.Write.{fieldOf, readBody, outputBody, literalBody, fieldsOf, writeOf}
 use Rattle.setfile.proofs.Fields.{field-back}
 use Rattle.setfile.proofs.PointsFit.{read-fits, output-fits}
@@ -44,13 +43,13 @@ file-parts s = simp append-assoc
 module _ (s : Set) (ok : wellFormed s ≡ true) where
   counts-pass : every (countTests (s .r) (s .n) 0) ≡ true
   unfolding countTests
-  counts-pass = let c = counts s ok in rw (le-leb (s .r) 16 (c .r-le), le-leb 1 (s .n) (c .n-pos), le-leb (s .n) 12 (c .n-le), le-leb (s .r + s .n) 24 (c .sum-le))
+  counts-pass = let c = counts s ok in rw (le-leb (s .r) mostReads (c .r-le), le-leb 1 (s .n) (c .n-pos), le-leb (s .n) mostOutputs (c .n-le), le-leb (s .r + s .n) mostPoints (c .sum-le))
 
   constraint-fits : (k : ℕ) → k < s .m → every (constraintTests (s .r) (s .n) (getD (s .constraints) k noConstraint)) ≡ true
   unfolding constraint
   constraint-fits = constraint-ok s ok
 
-  constraint-rest : (k : ℕ) → s .m ≤ k → k < 64 → getD (s .constraints) k noConstraint ≡ zeroConstraint
+  constraint-rest : (k : ℕ) → s .m ≤ k → k < mostConstraints → getD (s .constraints) k noConstraint ≡ zeroConstraint
   unfolding constraint
   constraint-rest k h l = constraint-blank (getD (s .constraints) k noConstraint) (beyond-zero s ok k h l)
 
@@ -59,8 +58,8 @@ module _ (s : Set) (ok : wellFormed s ≡ true) where
     unfolding countsAt
     counts-back =
         ap countsAt e
-        ∙ ap (countsGiven (fieldOf 0x01 (s .r ∷ s .n ∷ []) ++ restFields s)) (field-back 1 (s .r ∷ s .n ∷ []) (restFields s) 1 0 refl refl refl)
-        ∙ ap (λ (b : Bool). cond b (goingOn 5 (ofCounts (s .r) (s .n))) (refusal 5 0)) counts-pass
+        ∙ ap (fieldBy (fieldOf 0x01 (s .r ∷ s .n ∷ []) ++ restFields s) 0 countsTold countsMade) (field-back 1 (s .r ∷ s .n ∷ []) (restFields s) 1 0 refl refl refl)
+        ∙ ap (λ (b : Bool). fieldDone 0 2 (goodIf b 5) (ofCounts (s .r) (s .n))) counts-pass
 
     loads : loadFrom file ≡ goingOn (length file) s
     unfolding loadFrom zeroSet
@@ -71,9 +70,9 @@ module _ (s : Set) (ok : wellFormed s ≡ true) where
         (λ k h. read-fits (s .n) (s .reads) k (p .read-ok k h)) (λ k h l. read-blank (readPoint (s .reads) k) (p .read-zero k h l)) 5 (laterFields s) (ap (drop 5) e) in
         let b = points-back file (outputPoints file (s .r) (s .n) (s .reads)) (s .outputs) (s .n) (p .outputs-long) (p .outputs-few)
         (λ k h. output-fits (s .reads) (s .r) (s .outputs) k (p .output-ok k h)) (λ k h l. output-blank (outputPoint (s .outputs) k) (p .output-zero k h l)) (a .0) (lastFields s) (a .2) in
-        let left = 64 - s .m in
+        let left = mostConstraints - s .m in
         let few = c .m-le in
-        let sum : 65 ≡ s .m + suc left = omega arith in
+        let sum : suc mostConstraints ≡ s .m + suc left = omega arith in
         let d = run-back file (constraintRun file (s .r) (s .n) (s .reads) (s .outputs))
         (constraint-step file (s .r) (s .n) (c .r-le) (c .n-le) (c .sum-le) (s .reads) (s .outputs))
         (s .constraints) (s .m) (p .constraints-long) (c .m-le) constraint-fits constraint-rest (suc left) (b .0) (fieldOf 0x05 []) (b .2) in
@@ -91,4 +90,4 @@ loads-written s ok = loads s ok (writeOf s) (file-parts s)
 -- The file of a well-formed set loads to the set.
 pub load-written : (s : Set) → wellFormed s ≡ true → loadOf (writeOf s) ≡ record { answer = Loaded; set = s }
 unfolding loadOf
-load-written s ok = ap (λ (l : Loading). record { answer = answerOf (l .progress); set = l .set }) (loads-written s ok)
+load-written s ok = ap answered (loads-written s ok)

@@ -3,7 +3,7 @@
 use mathlib.Core.Path.{_≡_, refl, sym, _∙_, ap, ap₂, subst}
 use mathlib.Core.Bool.{Bool, true, false, cond, _&&_}
 use mathlib.Core.List.{List, [], _∷_, _++_}
-use Prim.Native.Nat.{ℕ, _≤_}
+use Prim.Native.Nat.{ℕ, _+_, _≤_}
 use native.Mathlib.Omega.{arith}
 use lib.Dec.{ltb, eqb}
 use lib.ListN.{length, getD, drop, length-drop}
@@ -14,17 +14,17 @@ use Rattle.scan.specs.declared.set.Kind.the-variants.{Sensor, PastOutput, PastS
 use Rattle.scan.specs.declared.set.ReadPoint.{ReadPoint}
 use Rattle.scan.specs.declared.set.OutputPoint.{OutputPoint}
 use Rattle.scan.specs.declared.set.Set.{Set}
-use Rattle.scan.specs.Set.{readPoint}
+use Rattle.scan.specs.Set.{namePlaces, readPoint}
 use Rattle.shape.specs.Spelling.{spelling}
-use Rattle.scan.specs.Names.{nameBytes, firstOutput, isUsed}
+use Rattle.scan.specs.Names.{nameBytes, nameOk, firstOutput, isUsed}
 use Rattle.scan.specs.Shape.{isSensor, kindOk}
-use Rattle.loader.specs.declared.point.Point.the-variants.{Good}
+use Rattle.header.specs.declared.numbers.Taken.the-variants.{Refused as Denied, Good}
 use Rattle.loader.specs.declared.point.KindRead.{KindRead}
 use Rattle.loader.specs.declared.point.KindRead.the-variants.{Bad, Known}
-use Rattle.loader.specs.declared.point.ReadField.{ReadField}
-use Rattle.loader.specs.declared.point.OutputField.{OutputField}
-use Rattle.loader.specs.Load.{kindIf, kindOf, deniedRead, readNamed, readTold, readField, deniedOutput, outputNamed, outputField}
+use Rattle.loader.specs.declared.point.NameField.{NameField}
+use Rattle.loader.specs.Load.{nameField, kindIf, kindOf, readTold, readField, sensorAt, readOf, outputOf}
 use Rattle.writer.specs.Write.{kindBytes, readBody, outputBody}
+use Rattle.loader.proofs.LoadLaws.{name-bad, name-used, name-good, read-known}
 use Rattle.setfile.proofs.Fields.{two-and-rest}
 use Rattle.setfile.proofs.NamesBack.{name-back, name-taken}
 use Rattle.setfile.proofs.PointsFit.{ReadFits, OutputFits, not-used, unused}
@@ -32,7 +32,7 @@ use Rattle.setfile.proofs.PointsFit.{ReadFits, OutputFits, not-used, un
 -- ---- kinds
 
 kind-back : (set : Set) (i : ℕ) (kind : Kind) (rest : List ℕ) → kindOk (set .reads) (set .n) i kind ≡ true
-    → kindOf set i (getD (kindBytes kind ++ rest) 0 0) (getD (kindBytes kind ++ rest) 1 0) ≡ Known kind
+    → kindOf (set .n) (sensorAt (set .reads)) i (getD (kindBytes kind ++ rest) 0 0) (getD (kindBytes kind ++ rest) 1 0) ≡ Known kind
 unfolding kindOf kindOk
 kind-back set i Sensor rest e = refl
 kind-back set i (PastOutput k) rest e = rw e
@@ -67,7 +67,7 @@ module _ (set : Set) (i k x : ℕ) (kind : Kind) where
   kind-cases false false false ea eb ec e = let z : _≡_ {A = ℕ} 0 1 = cc in absurd (omega arith)
 
   -- a kind that was read is right, and its bytes are those that were read
-  kind-taken : kindOf set i k x ≡ Known kind → (kindBytes kind ≡ k ∷ x ∷ []) × (kindOk (set .reads) (set .n) i kind ≡ true)
+  kind-taken : kindOf (set .n) (sensorAt (set .reads)) i k x ≡ Known kind → (kindBytes kind ≡ k ∷ x ∷ []) × (kindOk (set .reads) (set .n) i kind ≡ true)
   unfolding kindOf Right
   kind-taken e = kind-cases (eqb k 0) (eqb k 1) (eqb k 2) refl refl refl e
 
@@ -78,66 +78,79 @@ no-outputs : (set : Set) (name : List ℕ) → firstOutput (set .outputs) 0 name
 unfolding firstOutput first firstFrom
 no-outputs set name = refl
 
+-- a name that fits is given by its bytes, where it is not used
+name-told : (used : List ℕ → Bool) (name : List ℕ) → nameOk name ≡ true → used name ≡ false → nameField used (nameBytes name) ≡ record { taken = Good; name = name }
+name-told used name ok new = name-good used (nameBytes name) (record { good = true; name = name }) (sym (name-back name ok)) refl new
+
 -- The body of a read point that fits gives the point.
-pub read-back : (set : Set) (i : ℕ) (p : ReadPoint) → ReadFits (set .n) (set .reads) i p → readField (readBody p) set i ≡ record { point = Good; read = p }
-unfolding readField
+pub read-back : (set : Set) (i : ℕ) (p : ReadPoint) → ReadFits (set .n) (set .reads) i p → readOf set i (readBody p) ≡ record { taken = Good; read = p }
+unfolding readOf
 read-back set i p f =
-    ap (readTold (readBody p) set i) (kind-back set i (p .kind) (nameBytes (p .name)) (f .kind-ok))
-    ∙ ap (readNamed set i (p .kind)) (ap spelling (kind-drop (p .kind) (nameBytes (p .name))) ∙ name-back (p .name) (f .name-ok))
-    ∙ ap (λ (b : Bool). cond b (deniedRead 8) (record { point = Good; read = p })) (not-used (set .reads) i (set .outputs) 0 (p .name) (f .own) (no-outputs set (p .name)))
+    let used = isUsed (set .reads) i (set .outputs) 0 in
+    let named = name-told used (p .name) (f .name-ok) (not-used (set .reads) i (set .outputs) 0 (p .name) (f .own) (no-outputs set (p .name))) in
+    read-known (set .n) (sensorAt (set .reads)) used i (readBody p) (p .kind) (record { taken = Good; name = p .name })
+    (kind-back set i (p .kind) (nameBytes (p .name)) (f .kind-ok)) (sym (ap (nameField used) (kind-drop (p .kind) (nameBytes (p .name))) ∙ named))
 
-module _ (body : List ℕ) (set : Set) (i : ℕ) (some : 3 ≤ length body) (few : length body ≤ 10) where
-  -- what is taken from the body is a point that fits, and whose body it is
-  Taken : ReadPoint → Type 0
-  Taken p = ReadFits (set .n) (set .reads) i p × (readBody p ≡ body)
+-- what a name that was given tells of its bytes
+record NameTold (used : List ℕ → Bool) (bytes : List ℕ) : Type 0 where
+  name-ok : nameOk (nameField used bytes .name) ≡ true
+  same : nameBytes (nameField used bytes .name) ≡ bytes
+  new : used (nameField used bytes .name) ≡ false
 
-  by-name : (kind : Kind) → kindOf set i (getD body 0 0) (getD body 1 0) ≡ Known kind → (g u : Bool) → spelling (drop 2 body) .good ≡ g
-      → isUsed (set .reads) i (set .outputs) 0 (spelling (drop 2 body) .name) ≡ u
-      → cond {A = ReadField} g (cond u (deniedRead 8) (record { point = Good; read = record { kind = kind; name = spelling (drop 2 body) .name } })) (deniedRead 7) .point ≡ Good
-      → Taken (cond {A = ReadField} g (cond u (deniedRead 8) (record { point = Good; read = record { kind = kind; name = spelling (drop 2 body) .name } })) (deniedRead 7) .read)
-  unfolding Taken
-  by-name kind e false u a b t = let z : _≡_ {A = ℕ} 0 1 = cc in absurd (omega arith)
-  by-name kind e true true a b t = let z : _≡_ {A = ℕ} 0 1 = cc in absurd (omega arith)
-  by-name kind e true false a b t =
+name-given : (used : List ℕ → Bool) (bytes : List ℕ) → 1 ≤ length bytes → length bytes ≤ namePlaces → nameField used bytes .taken ≡ Good → NameTold used bytes
+name-given used bytes some few t = go (spelling bytes .good) refl
+  where
+    by-used : (u : Bool) → spelling bytes .good ≡ true → used (spelling bytes .name) ≡ u → NameTold used bytes
+    by-used true g e = absurd (never (sym (ap (λ (f : NameField). f .taken) (name-used used bytes (spelling bytes) refl g e)) ∙ t))
+      where
+        never : Denied 8 ≡ Good → ⊥
+        never w = let z : _≡_ {A = ℕ} 0 1 = cc in omega arith
+    by-used false g e =
+        let n = name-taken bytes some few g in
+        let same : spelling bytes .name ≡ nameField used bytes .name = sym (ap (λ (f : NameField). f .name) (name-good used bytes (spelling bytes) refl g e)) in
+        record {
+          name-ok = subst (λ (x : List ℕ). nameOk x ≡ true) same (n .name-ok);
+          same = subst (λ (x : List ℕ). nameBytes x ≡ bytes) same (n .same);
+          new = subst (λ (x : List ℕ). used x ≡ false) same e;
+        }
+
+    go : (g : Bool) → spelling bytes .good ≡ g → NameTold used bytes
+    go true g = by-used (used (spelling bytes .name)) g refl
+    go false g = absurd (never (sym (ap (λ (f : NameField). f .taken) (name-bad used bytes (spelling bytes) refl g)) ∙ t))
+      where
+        never : Denied 7 ≡ Good → ⊥
+        never w = let z : _≡_ {A = ℕ} 0 1 = cc in omega arith
+
+module _ (body : List ℕ) (set : Set) (i : ℕ) (some : 3 ≤ length body) (few : length body ≤ 2 + namePlaces) where
+  by-kind : (kr : KindRead) → kindOf (set .n) (sensorAt (set .reads)) i (getD body 0 0) (getD body 1 0) ≡ kr → let f = readTold (nameField (isUsed (set .reads) i (set .outputs) 0) (drop 2 body)) kr in
+      f .taken ≡ Good → ReadFits (set .n) (set .reads) i (f .read) × (readBody (f .read) ≡ body)
+  by-kind Bad e t = let z : _≡_ {A = ℕ} 0 1 = cc in absurd (omega arith)
+  by-kind (Known kind) e t =
       let l = length-drop 2 body in
       let k = kind-taken set i (getD body 0 0) (getD body 1 0) kind e in
-      let n = name-taken (drop 2 body) (omega arith) (omega arith) a in (
-        record { kind-ok = k .1; name-ok = n .name-ok; own = unused (set .reads) i (set .outputs) 0 (spelling (drop 2 body) .name) b .0 },
+      let n = name-given (isUsed (set .reads) i (set .outputs) 0) (drop 2 body) (omega arith) (omega arith) t in (
+        record { kind-ok = k .1; name-ok = n .name-ok; own = unused (set .reads) i (set .outputs) 0 (nameField (isUsed (set .reads) i (set .outputs) 0) (drop 2 body) .name) (n .new) .0 },
         ap₂ _++_ (k .0) (n .same) ∙ sym (two-and-rest body (omega arith)),
       )
 
-  by-kind : (kr : KindRead) → kindOf set i (getD body 0 0) (getD body 1 0) ≡ kr → readTold body set i kr .point ≡ Good → Taken (readTold body set i kr .read)
-  by-kind Bad e t = let z : _≡_ {A = ℕ} 0 1 = cc in absurd (omega arith)
-  by-kind (Known kind) e t =
-      by-name kind e (spelling (drop 2 body) .good) (isUsed (set .reads) i (set .outputs) 0 (spelling (drop 2 body) .name)) refl refl t
-
   -- A body that gives a read point is the one written for it, and the point fits.
-  pub read-taken : readField body set i .point ≡ Good → ReadFits (set .n) (set .reads) i (readField body set i .read) × (readBody (readField body set i .read) ≡ body)
-  unfolding readField Taken
-  read-taken t = by-kind (kindOf set i (getD body 0 0) (getD body 1 0)) refl t
+  pub read-taken : readOf set i body .taken ≡ Good → ReadFits (set .n) (set .reads) i (readOf set i body .read) × (readBody (readOf set i body .read) ≡ body)
+  unfolding readOf readField
+  read-taken t = by-kind (kindOf (set .n) (sensorAt (set .reads)) i (getD body 0 0) (getD body 1 0)) refl t
 
 -- ---- outputs
 
--- The body of an output that fits gives the output.
-pub output-back : (set : Set) (j : ℕ) (p : OutputPoint) → OutputFits (set .reads) (set .r) (set .outputs) j p → outputField (outputBody p) set j ≡ record { point = Good; output = p }
-unfolding outputField
+-- The body of an output that fits gives its name.
+pub output-back : (set : Set) (j : ℕ) (p : OutputPoint) → OutputFits (set .reads) (set .r) (set .outputs) j p → outputOf set j (outputBody p) ≡ record { taken = Good; name = p .name }
+unfolding outputOf
 output-back set j p f =
-    ap (outputNamed set j) (name-back (p .name) (f .name-ok))
-    ∙ ap (λ (b : Bool). cond b (deniedOutput 8) (record { point = Good; output = p })) (not-used (set .reads) (set .r) (set .outputs) j (p .name) (f .no-read) (f .own))
+    name-told (isUsed (set .reads) (set .r) (set .outputs) j) (p .name) (f .name-ok) (not-used (set .reads) (set .r) (set .outputs) j (p .name) (f .no-read) (f .own))
 
--- A body that gives an output is the one written for it, and the output fits.
-pub output-taken : (body : List ℕ) (set : Set) (j : ℕ) → 1 ≤ length body → length body ≤ 8 → outputField body set j .point ≡ Good
-    → OutputFits (set .reads) (set .r) (set .outputs) j (outputField body set j .output) × (outputBody (outputField body set j .output) ≡ body)
-unfolding outputField
-output-taken body set j some few t = go (spelling body .good) (isUsed (set .reads) (set .r) (set .outputs) j (spelling body .name)) refl refl t
-  where
-    go : (g u : Bool) → spelling body .good ≡ g → isUsed (set .reads) (set .r) (set .outputs) j (spelling body .name) ≡ u
-        → cond {A = OutputField} g (cond u (deniedOutput 8) (record { point = Good; output = record { name = spelling body .name } })) (deniedOutput 7) .point ≡ Good
-        → OutputFits (set .reads) (set .r) (set .outputs) j (cond {A = OutputField} g (cond u (deniedOutput 8) (record { point = Good; output = record { name = spelling body .name } })) (deniedOutput 7) .output)
-        × (outputBody (cond {A = OutputField} g (cond u (deniedOutput 8) (record { point = Good; output = record { name = spelling body .name } })) (deniedOutput 7) .output) ≡ body)
-    go false u a b v = let z : _≡_ {A = ℕ} 0 1 = cc in absurd (omega arith)
-    go true true a b v = let z : _≡_ {A = ℕ} 0 1 = cc in absurd (omega arith)
-    go true false a b v =
-        let n = name-taken body some few a in
-        let w = unused (set .reads) (set .r) (set .outputs) j (spelling body .name) b in
-        (record { name-ok = n .name-ok; no-read = w .0; own = w .1 }, n .same)
+-- A body that gives an output's name is the one written for it, and the output fits.
+pub output-taken : (body : List ℕ) (set : Set) (j : ℕ) → 1 ≤ length body → length body ≤ namePlaces → outputOf set j body .taken ≡ Good
+    → OutputFits (set .reads) (set .r) (set .outputs) j (record { name = outputOf set j body .name }) × (outputBody (record { name = outputOf set j body .name }) ≡ body)
+unfolding outputOf
+output-taken body set j some few t =
+    let n = name-given (isUsed (set .reads) (set .r) (set .outputs) j) body some few t in
+    let w = unused (set .reads) (set .r) (set .outputs) j (nameField (isUsed (set .reads) (set .r) (set .outputs) j) body .name) (n .new) in
+    (record { name-ok = n .name-ok; no-read = w .0; own = w .1 }, n .same)

@@ -13,24 +13,21 @@ use Rattle.scan.specs.declared.set.Kind.the-variants.{Sensor, PastOutput, PastS
 use Rattle.scan.specs.declared.set.ReadPoint.{ReadPoint}
 use Rattle.scan.specs.declared.set.OutputPoint.{OutputPoint}
 use Rattle.scan.specs.declared.set.Set.{Set}
-use Rattle.scan.specs.Set.{zeroRead, zeroOutput, withReads, withOutputs, noRead, noOutput}
+use Rattle.scan.specs.Set.{mostReads, mostOutputs, namePlaces, zeroRead, zeroOutput, withReads, withOutputs, noRead, noOutput}
 use Rattle.scan.specs.Names.{nameBytes}
-use Rattle.header.specs.declared.header.Header.{Header}
-use Rattle.header.specs.declared.header.Header.the-variants.{Refused as Stopped, Field}
-use Rattle.loader.specs.declared.point.Point.{Point}
-use Rattle.loader.specs.declared.point.Point.the-variants.{Refused as Denied, Good}
+use Rattle.header.specs.declared.numbers.Taken.{Taken}
+use Rattle.header.specs.declared.numbers.Taken.the-variants.{Good}
 use Rattle.loader.specs.declared.point.ReadField.{ReadField}
-use Rattle.loader.specs.declared.point.OutputField.{OutputField}
-use Rattle.loader.specs.declared.loader.Loading.{Loading}
-use Rattle.header.specs.Header.{headerOf, bodyOf, fitsTable}
-use Rattle.loader.specs.Load.{goingOn, andThen, ofCounts, readField, readDone, readGiven, readAt, readsFrom, outputField, outputDone, outputGiven, outputAt, outputsFrom}
+use Rattle.loader.specs.declared.point.NameField.{NameField}
+use Rattle.header.specs.Header.{headerOf, fitsTable}
+use Rattle.loader.specs.Load.{goingOn, andThen, ofCounts, readOf, readAt, readsFrom, outputOf, outputAt, outputsFrom}
 use Rattle.writer.specs.Write.{kindBytes, readBody, outputBody}
 use Rattle.header.proofs.HeaderLaws.{table-bounds}
 use Rattle.setfile.proofs.NamesBack.{name-bounds}
 use Rattle.setfile.proofs.PointsFit.{ReadFits, OutputFits, read-local, output-local}
 use Rattle.setfile.proofs.PointFields.{read-back, read-taken, output-back, output-taken}
 use Rattle.setfile.proofs.FieldRuns.{Run}
-use Rattle.setfile.proofs.PointRuns.{pointDone, pointGiven, PointRun}
+use Rattle.setfile.proofs.PointRuns.{pointBy, PointRun}
 
 -- ---- read points
 
@@ -42,7 +39,7 @@ abbrev pub readRun : List ℕ → ℕ → ℕ → Run ReadPoint
 readRun file r n = record {
   tag = 2;
   body = readBody;
-  places = 16;
+  places = mostReads;
   blank = zeroRead;
   past = noRead;
   base = readsBase r n;
@@ -51,24 +48,13 @@ readRun file r n = record {
   local = read-local n;
 }
 
-abbrev pub readSaid : List ℕ → Set → ℕ → Point
-readSaid b s i = readField b s i .point
+abbrev pub readSaid : List ℕ → Set → ℕ → Taken
+readSaid b s i = readOf s i b .taken
 
 abbrev pub readValue : List ℕ → Set → ℕ → ReadPoint
-readValue b s i = readField b s i .read
+readValue b s i = readOf s i b .read
 
 module _ (file : List ℕ) (r n : ℕ) where
-  read-given : (at i : ℕ) (l : List ReadPoint) (x : Header) → readGiven file at (readsBase r n i l) i x ≡ pointGiven file (readRun file r n) readSaid readValue at i l x
-  read-given at i l (Stopped number) = refl
-  read-given at i l (Field tag len) = go (readSaid (bodyOf (drop at file) len) (readsBase r n i l) i)
-    where
-      p : ReadPoint
-      p = readValue (bodyOf (drop at file) len) (readsBase r n i l) i
-
-      go : (t : Point) → readDone at len (readsBase r n i l) i t p ≡ pointDone file (readRun file r n) readSaid readValue at len i l t p
-      go (Denied number) = refl
-      go Good = refl
-
   pub reads-give : (l : List ReadPoint) (i : ℕ) (p : ReadPoint) → ReadFits n l i p
       → (fitsTable 2 (length (readBody p)) ≡ true) × (readSaid (readBody p) (readsBase r n i l) i ≡ Good) × (readValue (readBody p) (readsBase r n i l) i ≡ p)
   reads-give l i p f =
@@ -77,8 +63,8 @@ module _ (file : List ℕ) (r n : ℕ) where
       let w = length-append (kindBytes (p .kind)) (nameBytes (p .name)) in
       let len = length (readBody p) in
       let t = read-back (readsBase r n i l) i p f in (
-        simp (le-leb 3 len (omega (arith, w, k, b)), le-leb len 10 (omega (arith, w, k, b)), mod-one len),
-        ap (λ (x : ReadField). x .point) t,
+        simp (le-leb 3 len (omega (arith, w, k, b)), le-leb len (2 + namePlaces) (omega (arith, w, k, b)), mod-one len),
+        ap (λ (x : ReadField). x .taken) t,
         ap (λ (x : ReadField). x .read) t,
       )
     where
@@ -92,9 +78,9 @@ module _ (file : List ℕ) (r n : ℕ) where
   reads-end i at s = refl
 
   pub reads-open : (left i at : ℕ) (l : List ReadPoint)
-      → readsFrom file (suc left) i at (readsBase r n i l) ≡ andThen (pointGiven file (readRun file r n) readSaid readValue at i l (headerOf (drop at file) 2 0)) (readsFrom file left (i + 1))
+      → readsFrom file (suc left) i at (readsBase r n i l) ≡ andThen (pointBy file (readRun file r n) readSaid readValue at i l (headerOf (drop at file) 2 0)) (readsFrom file left (i + 1))
   unfolding readsFrom readAt
-  reads-open left i at l = ap (λ (x : Loading). andThen x (readsFrom file left (i + 1))) (read-given at i l (headerOf (drop at file) 2 0))
+  reads-open left i at l = refl
 
   -- Fields of read points, for a set of r and n.
   abbrev pub readPoints : PointRun ReadPoint file
@@ -119,7 +105,7 @@ abbrev pub outputRun : List ℕ → ℕ → ℕ → List ReadPoint → Run Outpu
 outputRun file r n reads = record {
   tag = 3;
   body = outputBody;
-  places = 12;
+  places = mostOutputs;
   blank = zeroOutput;
   past = noOutput;
   base = outputsBase r n reads;
@@ -128,41 +114,29 @@ outputRun file r n reads = record {
   local = output-local reads r;
 }
 
-abbrev pub outputSaid : List ℕ → Set → ℕ → Point
-outputSaid b s j = outputField b s j .point
+abbrev pub outputSaid : List ℕ → Set → ℕ → Taken
+outputSaid b s j = outputOf s j b .taken
 
 abbrev pub outputValue : List ℕ → Set → ℕ → OutputPoint
-outputValue b s j = outputField b s j .output
+outputValue b s j = record { name = outputOf s j b .name }
 
 module _ (file : List ℕ) (r n : ℕ) (reads : List ReadPoint) where
-  output-given : (at j : ℕ) (l : List OutputPoint) (x : Header)
-      → outputGiven file at (outputsBase r n reads j l) j x ≡ pointGiven file (outputRun file r n reads) outputSaid outputValue at j l x
-  output-given at j l (Stopped number) = refl
-  output-given at j l (Field tag len) = go (outputSaid (bodyOf (drop at file) len) (outputsBase r n reads j l) j)
-    where
-      p : OutputPoint
-      p = outputValue (bodyOf (drop at file) len) (outputsBase r n reads j l) j
-
-      go : (t : Point) → outputDone at len (outputsBase r n reads j l) j t p ≡ pointDone file (outputRun file r n reads) outputSaid outputValue at len j l t p
-      go (Denied number) = refl
-      go Good = refl
-
   pub outputs-give : (l : List OutputPoint) (j : ℕ) (p : OutputPoint) → OutputFits reads r l j p
       → (fitsTable 3 (length (outputBody p)) ≡ true) × (outputSaid (outputBody p) (outputsBase r n reads j l) j ≡ Good) × (outputValue (outputBody p) (outputsBase r n reads j l) j ≡ p)
   outputs-give l j p f =
       let b = name-bounds (p .name) (f .name-ok) in
       let len = length (outputBody p) in
       let t = output-back (outputsBase r n reads j l) j p f in
-      (simp (le-leb 1 len (b .0), le-leb len 8 (b .1), mod-one len), ap (λ (x : OutputField). x .point) t, ap (λ (x : OutputField). x .output) t)
+      (simp (le-leb 1 len (b .0), le-leb len namePlaces (b .1), mod-one len), ap (λ (x : NameField). x .taken) t, ap (λ (x : NameField). record { name = x .name }) t)
 
   pub outputs-end : (j at : ℕ) (s : Set) → outputsFrom file 0 j at s ≡ goingOn at s
   unfolding outputsFrom
   outputs-end j at s = refl
 
   pub outputs-open : (left j at : ℕ) (l : List OutputPoint)
-      → outputsFrom file (suc left) j at (outputsBase r n reads j l) ≡ andThen (pointGiven file (outputRun file r n reads) outputSaid outputValue at j l (headerOf (drop at file) 3 0)) (outputsFrom file left (j + 1))
+      → outputsFrom file (suc left) j at (outputsBase r n reads j l) ≡ andThen (pointBy file (outputRun file r n reads) outputSaid outputValue at j l (headerOf (drop at file) 3 0)) (outputsFrom file left (j + 1))
   unfolding outputsFrom outputAt
-  outputs-open left j at l = ap (λ (x : Loading). andThen x (outputsFrom file left (j + 1))) (output-given at j l (headerOf (drop at file) 3 0))
+  outputs-open left j at l = refl
 
   -- Fields of outputs, for a set of r, n and these read points.
   abbrev pub outputPoints : PointRun OutputPoint file

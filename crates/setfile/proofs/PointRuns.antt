@@ -12,42 +12,36 @@ use lib.ListN.{length, getD, take, drop, set}
 use borrow.Author.Tests.{eq-eqb}
 use Rattle.words.proofs.BoolLaws.{or-left}
 use Rattle.scan.specs.declared.set.Set.{Set}
+use Rattle.scan.specs.Set.{mostConstraints}
 use Rattle.header.specs.declared.header.Header.{Header}
 use Rattle.header.specs.declared.header.Header.the-variants.{Refused as Stopped, Field}
-use Rattle.loader.specs.declared.point.Point.{Point}
-use Rattle.loader.specs.declared.point.Point.the-variants.{Refused as Denied, Good}
+use Rattle.header.specs.declared.numbers.Taken.{Taken}
+use Rattle.header.specs.declared.numbers.Taken.the-variants.{Refused as Denied, Good}
 use Rattle.loader.specs.declared.loader.Progress.the-variants.{At}
-use Rattle.loader.specs.declared.loader.Loading.{Loading}
 use Rattle.header.specs.Bytes.{Bytes}
 use Rattle.header.specs.Header.{headerOf, bodyOf, fitsTable}
-use Rattle.loader.specs.Load.{refusal, goingOn, andThen}
+use Rattle.loader.specs.Load.{Loading, goingOn, andThen, fieldDone, fieldBy}
 use Rattle.writer.specs.Write.{fieldOf, fieldsOf}
 use Rattle.header.proofs.HeaderLaws.{due-is}
 use Rattle.setfile.proofs.Fields.{body-back, field-back, found}
 use Rattle.setfile.proofs.FieldRuns.{Run, begun, Moved, Done, run-back, run-taken}
 
 -- A body says whether it gives a point of the set so far, and which.
-module _ {A : Type 0} (file : List ℕ) (R : Run A) (said : List ℕ → Set → ℕ → Point) (value : List ℕ → Set → ℕ → A) where
-  -- the refusal, or the set with the point
-  abbrev pub pointDone : ℕ → ℕ → ℕ → List A → Point → A → Loading
-  pointDone at len i l (Denied number) p = refusal number at
-  pointDone at len i l Good p = goingOn (at + 3 + len) (R .base (i + 1) (set l i p))
-
-  -- by the field's header
-  abbrev pub pointGiven : ℕ → ℕ → List A → Header → Loading
-  pointGiven at i l (Stopped number) = refusal number at
-  pointGiven at i l (Field tag len) = pointDone at len i l (said (bodyOf (drop at file) len) (R .base i l) i) (value (bodyOf (drop at file) len) (R .base i l) i)
+module _ {A : Type 0} (file : List ℕ) (R : Run A) (said : List ℕ → Set → ℕ → Taken) (value : List ℕ → Set → ℕ → A) where
+  -- the field of a point, by its header
+  abbrev pub pointBy : ℕ → ℕ → List A → Header → Loading
+  pointBy at i l = fieldBy file at (λ b. said b (R .base i l) i) (λ b. R .base (i + 1) (set l i (value b (R .base i l) i)))
 
 -- a run of such fields: its tag is not that of constraints, it goes on by one field after the other, a point that fits is given by its body, and a
 -- body that gives a point is that of a point that fits
 pub record PointRun (A : Type 0) (file : List ℕ) : Type 1 where
   pub run : Run A
-  pub said : List ℕ → Set → ℕ → Point
+  pub said : List ℕ → Set → ℕ → Taken
   pub value : List ℕ → Set → ℕ → A
   pub plain : eqb (run .tag) 4 ≡ false
   pub ends : (i at : ℕ) (s : Set) → run .from 0 i at s ≡ goingOn at s
   pub opens : (left i at : ℕ) (l : List A)
-      → run .from (suc left) i at (run .base i l) ≡ andThen (pointGiven file run said value at i l (headerOf (drop at file) (run .tag) 0)) (run .from left (i + 1))
+      → run .from (suc left) i at (run .base i l) ≡ andThen (pointBy file run said value at i l (headerOf (drop at file) (run .tag) 0)) (run .from left (i + 1))
   pub gives : (l : List A) (i : ℕ) (p : A) → run .Fits l i p
       → (fitsTable (run .tag) (length (run .body p)) ≡ true) × (said (run .body p) (run .base i l) i ≡ Good) × (value (run .body p) (run .base i l) i ≡ p)
   pub takes : (b : List ℕ) (l : List A) (i : ℕ) → fitsTable (run .tag) (length b) ≡ true → said b (run .base i l) i ≡ Good
@@ -68,11 +62,11 @@ module _ {A : Type 0} (file : List ℕ) (K : PointRun A file) where
       let s = K .run .base i l in
       let hd : headerOf (drop at file) due 0 ≡ Field due len =
       ap (λ (x : List ℕ). headerOf x due 0) e
-      ∙ field-back due b rest due 0 (or-left (eqb due due) (eqb due 4 && eqb due 5) (eq-eqb due due refl)) (not-4 (leb 64 0)) (g .0) in
+      ∙ field-back due b rest due 0 (or-left (eqb due due) (eqb due 4 && eqb due 5) (eq-eqb due due refl)) (not-4 (leb mostConstraints 0)) (g .0) in
       let bd : bodyOf (drop at file) len ≡ b = ap (λ (x : List ℕ). bodyOf x len) e ∙ body-back due b rest in
       K .opens left i at l
-      ∙ ap (λ (x : Header). andThen (pointGiven file (K .run) (K .said) (K .value) at i l x) (K .run .from left (i + 1))) hd
-      ∙ ap₂ (λ (t : Point) (x : A). andThen (pointDone file (K .run) (K .said) (K .value) at len i l t x) (K .run .from left (i + 1)))
+      ∙ ap (λ (x : Header). andThen (pointBy file (K .run) (K .said) (K .value) at i l x) (K .run .from left (i + 1))) hd
+      ∙ ap₂ (λ (t : Taken) (x : A). andThen (fieldDone at len t (K .run .base (i + 1) (set l i x))) (K .run .from left (i + 1)))
       (ap (λ (x : List ℕ). K .said x s i) bd ∙ g .1) (ap (λ (x : List ℕ). K .value x s i) bd ∙ g .2)
 
   -- a field that was taken is the one written for a point that fits
@@ -89,8 +83,8 @@ module _ {A : Type 0} (file : List ℕ) (K : PointRun A file) where
       next : ℕ → Set → Loading
       next = K .run .from left (i + 1)
 
-      by-point : (tag len : ℕ) → headerOf (drop at file) due 0 ≡ Field tag len → (t : Point) → K .said (bodyOf (drop at file) len) s i ≡ t
-          → andThen (pointDone file (K .run) (K .said) (K .value) at len i l t (K .value (bodyOf (drop at file) len) s i)) next .progress ≡ At last → Moved file (K .run) left i at l
+      by-point : (tag len : ℕ) → headerOf (drop at file) due 0 ≡ Field tag len → (t : Taken) → K .said (bodyOf (drop at file) len) s i ≡ t
+          → andThen (fieldDone at len t (K .run .base (i + 1) (set l i (K .value (bodyOf (drop at file) len) s i)))) next .progress ≡ At last → Moved file (K .run) left i at l
       by-point tag len hd (Denied number) t u = let w : _≡_ {A = ℕ} 0 1 = cc in absurd (omega arith)
       by-point tag len hd Good t u =
           let f = found file at due 0 tag len bytes hd in
@@ -105,11 +99,11 @@ module _ {A : Type 0} (file : List ℕ) (K : PointRun A file) where
             field = f .whole ∙ ap₂ (λ (x : ℕ) (y : List ℕ). fieldOf x y ++ drop (at + 3 + len) file) same (sym (g .1));
             on =
                 K .opens left i at l
-                ∙ ap (λ (x : Header). andThen (pointGiven file (K .run) (K .said) (K .value) at i l x) next) hd
-                ∙ ap (λ (x : Point). andThen (pointDone file (K .run) (K .said) (K .value) at len i l x (K .value b s i)) next) t;
+                ∙ ap (λ (x : Header). andThen (pointBy file (K .run) (K .said) (K .value) at i l x) next) hd
+                ∙ ap (λ (x : Taken). andThen (fieldDone at len x (K .run .base (i + 1) (set l i (K .value b s i)))) next) t;
           }
 
-      by-header : (x : Header) → headerOf (drop at file) due 0 ≡ x → andThen (pointGiven file (K .run) (K .said) (K .value) at i l x) next .progress ≡ At last → Moved file (K .run) left i at l
+      by-header : (x : Header) → headerOf (drop at file) due 0 ≡ x → andThen (pointBy file (K .run) (K .said) (K .value) at i l x) next .progress ≡ At last → Moved file (K .run) left i at l
       by-header (Stopped number) t u = let w : _≡_ {A = ℕ} 0 1 = cc in absurd (omega arith)
       by-header (Field tag len) t u = by-point tag len t (K .said (bodyOf (drop at file) len) s i) refl u
 

@@ -9,15 +9,16 @@ use Rattle.shape.specs.Spelling.{spelling}
 use Rattle.scan.specs.Shape.{countTests}
 use Rattle.scan.specs.Samples.{P}
 use Rattle.loader.specs.declared.loader.LoadAnswer.the-variants.{Loaded}
-use Rattle.header.specs.Header.{headerOf}
+use Rattle.header.specs.Header.{rawOf, headerOf}
 use Rattle.literal.specs.Literal.{narrows, withLiteral, literalsFrom}
-use Rattle.loader.specs.Load.{countsAt, kindOf, readField, readAt, readsFrom, outputField, outputAt, outputsFrom, constraintAt, constraintsFrom, loadFrom, loadOf}
+use Rattle.loader.specs.Load.{countsAt, nameField, kindOf, readField, readOf, readAt, readsFrom, outputOf, outputAt, outputsFrom, constraintAt, constraintsFrom, loadFrom, loadOf}
 use Rattle.writer.specs.Write.{readLiteral, outputLiteral, joined, literalBody, fieldsOf, writeOf}
 use Rattle.setfile.specs.SampleFile.{fileP}
 
 -- The file loads to P.
 pub P-loads : loadOf fileP ≡ record { answer = Loaded; set = P }
-unfolding all firstFrom first zeroSet nameByte allNameBytes spelling sameName readNamed firstRead outputNamed firstOutput isUsed countTests headerOf narrows withLiteral literalsFrom countsAt kindOf readField readAt readsFrom outputField outputAt outputsFrom constraintAt constraintsFrom loadFrom loadOf
+unfolding all firstFrom first zeroSet nameByte allNameBytes spelling sameName readNamed firstRead outputNamed firstOutput isUsed
+    countTests rawOf headerOf narrows withLiteral literalsFrom countsAt nameField kindOf readField readOf readAt readsFrom outputOf outputAt outputsFrom constraintAt constraintsFrom loadFrom loadOf
 P-loads = refl
 
 -- P's file is the file.

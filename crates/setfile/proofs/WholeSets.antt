@@ -14,7 +14,7 @@ use Rattle.words.proofs.BoolLaws.{every-at, cond-true, cond-false}
 use Rattle.words.proofs.LoopLaws.{all-true}
 use Rattle.scan.specs.declared.set.OutputPoint.{OutputPoint}
 use Rattle.scan.specs.declared.set.Set.{Set}
-use Rattle.scan.specs.Set.{zeroRead, zeroOutput, zeroConstraint, readPoint, outputPoint, constraint, noRead, noOutput, noConstraint}
+use Rattle.scan.specs.Set.{mostReads, mostOutputs, mostPoints, mostConstraints, zeroRead, zeroOutput, zeroConstraint, readPoint, outputPoint, constraint, noRead, noOutput, noConstraint}
 use Rattle.scan.specs.Names.{nameZero}
 use Rattle.scan.specs.Shape.{countTests, lengthTests, readOk, readZero, readPlace, outputOk, outputPlace, constraintTests, constraintZero, constraintPlace, setTests, wellFormed}
 use Rattle.setfile.proofs.PointsFit.{ReadFits, OutputFits, fits-read, fits-output}
@@ -44,24 +44,24 @@ five : (a b c d e : Bool) → a ≡ true → b ≡ true → c ≡ true → d ≡
 five a b c d e a′ b′ c′ d′ e′ = rw (a′, b′, c′, d′, e′)
 
 -- the counts pass with as many constraints as there are
-counts-pass : (r n m : ℕ) → every (countTests r n 0) ≡ true → m ≤ 64 → every (countTests r n m) ≡ true
+counts-pass : (r n m : ℕ) → every (countTests r n 0) ≡ true → m ≤ mostConstraints → every (countTests r n m) ≡ true
 unfolding countTests
-counts-pass r n m e h = let t = every-at (countTests r n 0) e in five _ _ _ _ _ (t 0) (t 1) (t 2) (t 3) (le-leb m 64 h)
+counts-pass r n m e h = let t = every-at (countTests r n 0) e in five _ _ _ _ _ (t 0) (t 1) (t 2) (t 3) (le-leb m mostConstraints h)
 
 -- Counts that pass are within the limits.
-pub limits : (r n : ℕ) → every (countTests r n 0) ≡ true → (r ≤ 16) × (n ≤ 12) × (r + n ≤ 24)
+pub limits : (r n : ℕ) → every (countTests r n 0) ≡ true → (r ≤ mostReads) × (n ≤ mostOutputs) × (r + n ≤ mostPoints)
 unfolding countTests
-limits r n e = let t = every-at (countTests r n 0) e in (leb-true r 16 (t 0), leb-true n 12 (t 2), leb-true (r + n) 24 (t 3))
+limits r n e = let t = every-at (countTests r n 0) e in (leb-true r mostReads (t 0), leb-true n mostOutputs (t 2), leb-true (r + n) mostPoints (t 3))
 
 -- a set of counts that pass and parts that fit, with zeros beyond
 pub record Whole (s : Set) : Type 0 where
   pub counts : every (countTests (s .r) (s .n) 0) ≡ true
-  pub few : s .m ≤ 64
-  pub reads : Filled zeroRead noRead 16 (s .r) (s .reads)
+  pub few : s .m ≤ mostConstraints
+  pub reads : Filled zeroRead noRead mostReads (s .r) (s .reads)
   pub reads-fit : (k : ℕ) → k < s .r → ReadFits (s .n) (s .reads) k (readPoint (s .reads) k)
-  pub outputs : Filled zeroOutput noOutput 12 (s .n) (s .outputs)
+  pub outputs : Filled zeroOutput noOutput mostOutputs (s .n) (s .outputs)
   pub outputs-fit : (k : ℕ) → k < s .n → OutputFits (s .reads) (s .r) (s .outputs) k (outputPoint (s .outputs) k)
-  pub constraints : Filled zeroConstraint noConstraint 64 (s .m) (s .constraints)
+  pub constraints : Filled zeroConstraint noConstraint mostConstraints (s .m) (s .constraints)
   pub constraints-fit : (k : ℕ) → k < s .m → every (constraintTests (s .r) (s .n) (getD (s .constraints) k noConstraint)) ≡ true
 
 -- Such a set is well formed.
@@ -71,12 +71,12 @@ whole-formed s w =
     five _ _ _ _ _
     (counts-pass (s .r) (s .n) (s .m) (w .counts) (w .few))
     lengths-pass
-    (placed (s .r) 16 (readOk (s .reads) (s .n)) (λ k. readZero (readPoint (s .reads) k))
+    (placed (s .r) mostReads (readOk (s .reads) (s .n)) (λ k. readZero (readPoint (s .reads) k))
     (λ k h. fits-read (s .n) (s .reads) k (w .reads-fit k h)) (λ k h l. ap readZero (w .reads .blank k h l) ∙ zero-read))
-    (placed (s .n) 12 (outputOk (s .reads) (s .r) (s .outputs)) (λ k. nameZero (outputPoint (s .outputs) k .name))
+    (placed (s .n) mostOutputs (outputOk (s .reads) (s .r) (s .outputs)) (λ k. nameZero (outputPoint (s .outputs) k .name))
     (λ k h. fits-output (s .reads) (s .r) (s .outputs) k (w .outputs-fit k h)) (λ k h l. ap (λ (p : OutputPoint). nameZero (p .name)) (w .outputs .blank k h l) ∙ zero-output))
-    (placed (s .m) 64 (λ k. every (constraintTests (s .r) (s .n) (getD (s .constraints) k noConstraint))) (λ k. constraintZero (getD (s .constraints) k noConstraint))
+    (placed (s .m) mostConstraints (λ k. every (constraintTests (s .r) (s .n) (getD (s .constraints) k noConstraint))) (λ k. constraintZero (getD (s .constraints) k noConstraint))
     (w .constraints-fit) (λ k h l. ap constraintZero (w .constraints .blank k h l) ∙ zero-constraint))
   where
     lengths-pass : every (lengthTests s) ≡ true
-    lengths-pass = rw (eq-eqb (length (s .reads)) 16 (w .reads .long), eq-eqb (length (s .outputs)) 12 (w .outputs .long), eq-eqb (length (s .constraints)) 64 (w .constraints .long))
+    lengths-pass = rw (eq-eqb (length (s .reads)) mostReads (w .reads .long), eq-eqb (length (s .outputs)) mostOutputs (w .outputs .long), eq-eqb (length (s .constraints)) mostConstraints (w .constraints .long))

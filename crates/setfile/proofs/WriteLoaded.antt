@@ -1,9 +1,9 @@
 -- A file that loads is the file of the set that it loads to, and that set is well formed.
 -- Assumes nothing.
 use mathlib.Core.Path.{_≡_, refl, sym, _∙_, ap, ap₂}
-use mathlib.Core.Bool.{Bool, true, false, cond}
+use mathlib.Core.Bool.{Bool, true, false}
 use mathlib.Core.List.{List, [], _∷_, _++_}
-use Prim.Native.Nat.{ℕ, _+_, _≤_}
+use Prim.Native.Nat.{ℕ, suc, _+_, _≤_}
 use native.Mathlib.Omega.{arith}
 use lib.ListN.{length, getD, take, drop}
 use Rattle.words.specs.Loop.{every}
@@ -11,17 +11,17 @@ use Rattle.scan.specs.declared.set.ReadPoint.{ReadPoint}
 use Rattle.scan.specs.declared.set.OutputPoint.{OutputPoint}
 use Rattle.scan.specs.declared.set.Constraint.{Constraint}
 use Rattle.scan.specs.declared.set.Set.{Set}
-use Rattle.scan.specs.Set.{zeroSet}
+use Rattle.scan.specs.Set.{mostReads, mostOutputs, mostPoints, mostConstraints, zeroSet}
 use Rattle.scan.specs.Shape.{countTests, wellFormed}
 use Rattle.header.specs.declared.header.Header.{Header}
 use Rattle.header.specs.declared.header.Header.the-variants.{Refused as Stopped, Field}
 use Rattle.loader.specs.declared.loader.Progress.{Progress}
 use Rattle.loader.specs.declared.loader.Progress.the-variants.{At, Refused}
 use Rattle.loader.specs.declared.loader.LoadAnswer.the-variants.{Loaded}
-use Rattle.loader.specs.declared.loader.Loading.{Loading}
 use Rattle.header.specs.Bytes.{Bytes}
 use Rattle.header.specs.Header.{headerOf, bodyOf, fitsTable}
-use Rattle.loader.specs.Load.{refusal, goingOn, thenFrom, andThen, ofCounts, countsGiven, countsAt, readsFrom, outputsFrom, constraintsFrom, afterCounts, afterReads, afterOutputs, answerOf, loadFrom, loadOf}
+use Rattle.loader.specs.Load.{Loading, goingOn, thenFrom, andThen, fieldDone, fieldBy, ofCounts, goodIf, countsTold, countsMade, countsAt, readsFrom, outputsFrom, constraintsFrom}
+use Rattle.loader.specs.Load.{afterCounts, afterReads, afterOutputs, answerOf, loadFrom, loadOf}
 use Rattle.writer.specs.Write.{fieldOf, fieldsOf, readBody, outputBody, literalBody, writeOf}
 use Rattle.header.proofs.HeaderLaws.{table-bounds, due-is}
 use Rattle.setfile.proofs.Fields.{two-bytes, found}
@@ -54,7 +54,7 @@ unfolding countsAt
 counted file bytes at e = by-header (headerOf file 1 0) refl e
   where
     by-test : (tag len : ℕ) → headerOf file 1 0 ≡ Field tag len → (t : Bool) → every (countTests (getD (bodyOf file len) 0 0) (getD (bodyOf file len) 1 0) 0) ≡ t
-        → cond t (goingOn (3 + len) (ofCounts (getD (bodyOf file len) 0 0) (getD (bodyOf file len) 1 0))) (refusal 5 0) .progress ≡ At at → Counted file
+        → fieldDone 0 len (goodIf t 5) (countsMade (bodyOf file len)) .progress ≡ At at → Counted file
     by-test tag len hd false t u = let z : _≡_ {A = ℕ} 0 1 = cc in absurd (omega arith)
     by-test tag len hd true t u =
         let f = found file 0 1 0 tag len bytes hd in
@@ -70,18 +70,18 @@ counted file bytes at e = by-header (headerOf file 1 0) refl e
           outputs = n;
           passed = t;
           loaded =
-              ap (countsGiven file) hd ∙ ap (λ (b : Bool). cond b (goingOn (3 + len) (ofCounts r n)) (refusal 5 0)) t
+              ap (fieldBy file 0 countsTold countsMade) hd ∙ ap (λ (b : Bool). fieldDone 0 len (goodIf b 5) (ofCounts r n)) t
               ∙ ap (λ (x : ℕ). goingOn (3 + x) (ofCounts r n)) two;
           written = whole ∙ ap (λ (x : ℕ). fieldOf 1 (r ∷ n ∷ []) ++ drop (0 + 3 + x) file) two;
         }
 
-    by-header : (h : Header) → headerOf file 1 0 ≡ h → countsGiven file h .progress ≡ At at → Counted file
+    by-header : (h : Header) → headerOf file 1 0 ≡ h → fieldBy file 0 countsTold countsMade h .progress ≡ At at → Counted file
     by-header (Stopped number) t u = let z : _≡_ {A = ℕ} 0 1 = cc in absurd (omega arith)
     by-header (Field tag len) t u = by-test tag len t (every (countTests (getD (bodyOf file len) 0 0) (getD (bodyOf file len) 1 0) 0)) refl u
 
 -- ---- the whole file
 
-not-last : (m left : ℕ) → m + left ≡ 65 → 1 ≤ left → m ≤ 64
+not-last : (m left : ℕ) → m + left ≡ suc mostConstraints → 1 ≤ left → m ≤ mostConstraints
 not-last m left e h = omega arith
 
 -- what a load that came to its end tells: the set, its file, and that it is well formed
@@ -99,15 +99,15 @@ module _ (file : List ℕ) (bytes : Bytes file) (last : ℕ) (c : Counted file) 
   abbrev n : ℕ
   n = c .outputs
 
-  limited : (r ≤ 16) × (n ≤ 12) × (r + n ≤ 24)
+  limited : (r ≤ mostReads) × (n ≤ mostOutputs) × (r + n ≤ mostPoints)
   limited = limits r n (c .passed)
 
   module _ (at1 : ℕ) (reads : List ReadPoint) (a : Done file (readRun file r n) 5 r at1 reads) (a-load : readsFrom file r 0 5 (ofCounts r n) ≡ goingOn at1 (readsBase r n r reads)) where
     module _ (at2 : ℕ) (outputs : List OutputPoint) (b : Done file (outputRun file r n reads) at1 n at2 outputs)
         (b-load : outputsFrom file n 0 at1 (readsBase r n r reads) ≡ goingOn at2 (outputsBase r n reads n outputs)) where
       -- all of them
-      ended : (m left at3 : ℕ) (full : List Constraint) → m + left ≡ 65 → Done file (constraintRun file r n reads outputs) at2 m at3 full
-          → EndHere file (constraintsBase r n reads outputs) left m at3 full → constraintsFrom file 65 at2 (outputsBase r n reads n outputs) ≡ constraintsFrom file left at3 (constraintsBase r n reads outputs m full)
+      ended : (m left at3 : ℕ) (full : List Constraint) → m + left ≡ suc mostConstraints → Done file (constraintRun file r n reads outputs) at2 m at3 full
+          → EndHere file (constraintsBase r n reads outputs) left m at3 full → constraintsFrom file (suc mostConstraints) at2 (outputsBase r n reads n outputs) ≡ constraintsFrom file left at3 (constraintsBase r n reads outputs m full)
           → Read file
       unfolding loadFrom
       ended m left at3 full total d stop d-load =
@@ -141,11 +141,11 @@ module _ (file : List ℕ) (bytes : Bytes file) (last : ℕ) (c : Counted file) 
           }
 
       -- the constraints
-      constraints-read : constraintsFrom file 65 at2 (outputsBase r n reads n outputs) .progress ≡ At last → Read file
+      constraints-read : constraintsFrom file (suc mostConstraints) at2 (outputsBase r n reads n outputs) .progress ≡ At last → Read file
       unfolding zeroSet
       constraints-read e =
           let t = limited in
-          let d = run-taken file (constraintRun file r n reads outputs) 65 last (EndHere file (constraintsBase r n reads outputs))
+          let d = run-taken file (constraintRun file r n reads outputs) (suc mostConstraints) last (EndHere file (constraintsBase r n reads outputs))
           (constraints-zero file r n (t .0) (t .1) (t .2) reads outputs last) (constraint-moved file r n (t .0) (t .1) (t .2) reads outputs bytes last) at2 e in
           ended (d .count) (d .spare) (d .place) (d .full) (d .total) (d .done) (d .stop) (d .loaded)
 

@@ -17,7 +17,7 @@ use Rattle.scan.specs.declared.set.Kind.the-variants.{Sensor, PastOutput, PastS
 use Rattle.scan.specs.declared.set.ReadPoint.{ReadPoint}
 use Rattle.scan.specs.declared.set.Constraint.{Constraint}
 use Rattle.scan.specs.declared.set.Set.{Set}
-use Rattle.scan.specs.Set.{readPoint, outputPoint, constraint, noRead, noOutput, noConstraint}
+use Rattle.scan.specs.Set.{mostReads, mostOutputs, readPoint, outputPoint, constraint, noRead, noOutput, noConstraint}
 use Rattle.scan.specs.Names.{nameByte, allNameBytes, nameBytes, nameOk}
 use Rattle.scan.specs.Shape.{isSensor, kindOk, wellFormed}
 use Rattle.scan.proofs.ShapeLaws.{Masks, rank-lt, counts, masks, points-formed}
@@ -78,17 +78,18 @@ of-name name ok k h =
     let l : b ≤ 0x7E = leb-true b 0x7E (and-true (leb 0x21 b) (leb b 0x7E) t .1) in
     omega arith
 
-of-kind : (reads : List ReadPoint) (n k : ℕ) (x : Kind) → n ≤ 12 → k < 16 → kindOk reads n k x ≡ true → Bytes (kindBytes x)
+of-kind : (reads : List ReadPoint) (n k : ℕ) (x : Kind) → n ≤ mostOutputs → k < mostReads → kindOk reads n k x ≡ true → Bytes (kindBytes x)
 unfolding kindOk
 of-kind reads n k Sensor h l e = two 0 0 (omega arith) (omega arith)
 of-kind reads n k (PastOutput i) h l e = let w = ltb-true i n e in two 1 i (omega arith) (omega arith)
 of-kind reads n k (PastSensor i) h l e =
     let w = ltb-true i k (and-true (ltb i k) (isSensor (readPoint reads i .kind)) e .0) in two 2 i (omega arith) (omega arith)
 
-small : (k : ℕ) → k < 16 → (o g : Bool) → byte o g k < 256
+-- a number that leaves bits 6 and 7 free, as that of every point does
+small : (k : ℕ) → k < 64 → (o g : Bool) → byte o g k < 256
 small k h = by-four (λ (o g : Bool). byte o g k < 256) (omega arith) (omega arith) (omega arith) (omega arith)
 
-of-told : (o p q : Bool) (k x : ℕ) → k < 16 → x < 256 → Bytes (told o p q k x)
+of-told : (o p q : Bool) (k x : ℕ) → k < 64 → x < 256 → Bytes (told o p q k x)
 of-told o true q k x h l = two (byte o false k) x (small k h o false) l
 of-told o false true k x h l = two (byte o true k) x (small k h o true) l
 of-told o false false k x h l = none
@@ -101,9 +102,9 @@ of-joined (suc N) f h = both (joined N f) (f N) (of-joined N f (λ k w. h k (ome
 of-literals : (r n : ℕ) (c : Constraint) → Masks r n c → Bytes (literalBody c)
 unfolding literalBody readLiteral outputLiteral
 of-literals r n c m =
-    both (joined 16 (literal c false)) (joined 12 (literal c true))
-    (of-joined 16 (literal c false) (λ k h. of-told false (bit k (mask false false c)) (bit k (mask false true c)) k 0 h (omega arith)))
-    (of-joined 12 (literal c true) (λ k h. of-told true (bit k (mask true false c)) (bit k (mask true true c)) k (worth true c k) (omega arith) (rank-lt c k (m .ranks-ok k h))))
+    both (joined mostReads (literal c false)) (joined mostOutputs (literal c true))
+    (of-joined mostReads (literal c false) (λ k h. of-told false (bit k (mask false false c)) (bit k (mask false true c)) k 0 (omega arith) (omega arith)))
+    (of-joined mostOutputs (literal c true) (λ k h. of-told true (bit k (mask true false c)) (bit k (mask true true c)) k (worth true c k) (omega arith) (rank-lt c k (m .ranks-ok k h))))
 
 -- The file of a well-formed set is a list of bytes.
 pub written-bytes : (s : Set) → wellFormed s ≡ true → Bytes (writeOf s)

@@ -17,7 +17,7 @@ use Rattle.scan.specs.declared.set.Kind.the-variants.{Sensor, PastOutput, PastS
 use Rattle.scan.specs.declared.set.ReadPoint.{ReadPoint}
 use Rattle.scan.specs.declared.set.OutputPoint.{OutputPoint}
 use Rattle.scan.specs.declared.set.Constraint.{Constraint}
-use Rattle.scan.specs.Set.{zeroRead, zeroOutput, zeroConstraint}
+use Rattle.scan.specs.Set.{mostOutputs, namePlaces, zeroName, zeroRead, zeroOutput, zeroConstraint}
 use Rattle.scan.specs.Names.{zeroAt, nameZero}
 use Rattle.scan.specs.Shape.{isSensor, readZero, rankZero, constraintZero}
 
@@ -27,11 +27,11 @@ zeros N l e z =
     ext-getD 0 l (replicate N 0) (e ∙ sym (length-replicate N 0))
     (λ k h. let w : k < N = omega arith in eqb-true (getD l k 0) 0 (z k w) ∙ sym (getD-replicate N k 0 0 w))
 
-name-blank : (name : List ℕ) → nameZero name ≡ true → name ≡ replicate 8 0
+name-blank : (name : List ℕ) → nameZero name ≡ true → name ≡ zeroName
 unfolding nameZero
 name-blank name e =
-    let t = every-at (eqb (length name) 8 ∷ all 8 (zeroAt name) ∷ []) e in
-    zeros 8 name (eqb-true (length name) 8 (t 0)) (all-at 8 (zeroAt name) (t 1))
+    let t = every-at (eqb (length name) namePlaces ∷ all namePlaces (zeroAt name) ∷ []) e in
+    zeros namePlaces name (eqb-true (length name) namePlaces (t 0)) (all-at namePlaces (zeroAt name) (t 1))
 
 sensor : (k : Kind) → isSensor k ≡ true → k ≡ Sensor
 sensor Sensor e = refl
@@ -52,10 +52,10 @@ output-blank p e = let n = name-blank (p .name) e in λ i. record { name = n i }
 pub constraint-blank : (c : Constraint) → constraintZero c ≡ true → c ≡ zeroConstraint
 unfolding constraintZero
 constraint-blank c e =
-    let t = every-at (eqb (c .«read_plain») 0 ∷ eqb (c .«read_negated») 0 ∷ eqb (c .«out_plain») 0 ∷ eqb (c .«out_negated») 0 ∷ eqb (length (c .ranks)) 12 ∷ all 12 (rankZero c) ∷ []) e in
+    let t = every-at (eqb (c .«read_plain») 0 ∷ eqb (c .«read_negated») 0 ∷ eqb (c .«out_plain») 0 ∷ eqb (c .«out_negated») 0 ∷ eqb (length (c .ranks)) mostOutputs ∷ all mostOutputs (rankZero c) ∷ []) e in
     let p = eqb-true (c .«read_plain») 0 (t 0) in
     let q = eqb-true (c .«read_negated») 0 (t 1) in
     let u = eqb-true (c .«out_plain») 0 (t 2) in
     let v = eqb-true (c .«out_negated») 0 (t 3) in
-    let k = zeros 12 (c .ranks) (eqb-true (length (c .ranks)) 12 (t 4)) (all-at 12 (rankZero c) (t 5)) in
+    let k = zeros mostOutputs (c .ranks) (eqb-true (length (c .ranks)) mostOutputs (t 4)) (all-at mostOutputs (rankZero c) (t 5)) in
     λ i. record { «read_plain» = p i; «read_negated» = q i; «out_plain» = u i; «out_negated» = v i; ranks = k i }

@@ -7,7 +7,7 @@ pub use finding::Found;
 pub use finding::find;
 pub use names::Spelled;
 pub use names::is_name_used;
-pub use names::is_used;
 pub use names::spell;
+pub use shape::are_counts_ok;
 pub use shape::is_sensor;
 pub use shape::well_formed;

@@ -7,12 +7,11 @@ use scan::MOST_READS;
 use scan::NAME_PLACES;
 use scan::OutputPoint;
 use scan::ReadPoint;
-use scan::Set;
 ghost use mathlib.Core.Path.{_≡_};
 ghost use Prim.Native.Nat.{_≤_, min};
 ghost use lib.ListN.{length};
 ghost use Rattle.scan.specs.Set.{mostReads, mostOutputs, namePlaces};
-ghost use Rattle.scan.specs.Names.{nameByte, allNameBytes, lengthOk, padded, nameOk, nameZero, sameName, firstRead, firstOutput, isUsed};
+ghost use Rattle.scan.specs.Names.{nameByte, allNameBytes, lengthOk, padded, nameOk, nameZero, sameName};
 ghost use Rattle.shape.specs.way.Names.{nextOk, firstName, nameUsed, ReadNames, OutputNames};
 ghost use Rattle.shape.specs.Spelling.{spelling};
 
@@ -125,44 +124,6 @@ fn is_same_name(a: [u8; NAME_PLACES], b: [u8; NAME_PLACES]) -> bool
     same
 }
 
-// The first of the first i read points that has the name, or i.
-pub fn first_read(reads: [ReadPoint; MOST_READS], i: usize, name: [u8; NAME_PLACES]) -> usize
-    requires { ⌜ i ≤ mostReads ⌝ }
-    ensures { λ r. ⌜ r ≡ firstRead reads i name ⌝ }
-{
-    let mut k: usize = 0;
-    while k < i {
-        let p = reads[k];
-        let own = p.name;
-        if is_same_name(own, name) {
-            return k;
-        }
-        k = k + 1;
-    }
-    i
-}
-
-// The first of the first j outputs that has the name, or j.
-pub fn first_output(
-    outputs: [OutputPoint; MOST_OUTPUTS],
-    j: usize,
-    name: [u8; NAME_PLACES],
-) -> usize
-    requires { ⌜ j ≤ mostOutputs ⌝ }
-    ensures { λ r. ⌜ r ≡ firstOutput outputs j name ⌝ }
-{
-    let mut k: usize = 0;
-    while k < j {
-        let p = outputs[k];
-        let own = p.name;
-        if is_same_name(own, name) {
-            return k;
-        }
-        k = k + 1;
-    }
-    j
-}
-
 // The names of the read points, for functions to which they are lent.
 pub fn names_of_reads(reads: [ReadPoint; MOST_READS]) -> [[u8; NAME_PLACES]; MOST_READS]
     ensures { λ r. ⌜ ReadNames r reads ⌝ }
@@ -224,18 +185,4 @@ pub fn is_name_used<'a>(
     let a = least(i, MOST_READS);
     let b = least(j, MOST_OUTPUTS);
     either(first_of(reads, a, name) < a, first_of(outputs, b, name) < b)
-}
-
-// Whether one of the first i read points or of the first j outputs of the set has the name.
-pub fn is_used(set: Set, i: usize, j: usize, name: [u8; NAME_PLACES]) -> bool
-    ensures { λ r. ⌜ r ≡ isUsed (set .reads) (min i mostReads) (set .outputs) (min j mostOutputs) name ⌝ }
-{
-    let reads = set.reads;
-    let outputs = set.outputs;
-    let a = least(i, MOST_READS);
-    let b = least(j, MOST_OUTPUTS);
-    either(
-        first_read(reads, a, name) < a,
-        first_output(outputs, b, name) < b,
-    )
 }

@@ -1,4 +1,4 @@
-// When a set is well formed: when some file loads to it.
+// When a set is well formed: every part up to the counts is right, and every place beyond them is zero.
 use super::names::first_of;
 use super::names::is_name;
 use super::names::is_zero_name;
@@ -26,7 +26,8 @@ ghost use Rattle.shape.specs.way.Names.{ReadNames};
 ghost use Rattle.scan.specs.Shape.{countTests, isSensor, readZero, readPlace, rankOk, rankZero, constraintTests, constraintZero, constraintPlace, wellFormed};
 ghost use Rattle.shape.specs.way.Shape.{sensorsOf, kindBy, readBy, readPlaceBy, outputBy, outputPlaceBy};
 
-fn are_counts_ok(r: usize, n: usize, m: usize) -> bool
+// Whether the counts are in range.
+pub fn are_counts_ok(r: usize, n: usize, m: usize) -> bool
     ensures { λ x. ⌜ x ≡ every (countTests r n m) ⌝ }
 {
     if r <= MOST_READS {

@@ -1,2 +1,3 @@
 pub mod LiteralBodyLaws
+pub mod LowestBit
 pub mod WriteLaws

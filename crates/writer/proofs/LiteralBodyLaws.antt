@@ -1,21 +1,19 @@
 -- The literals of a constraint as bytes: as the code puts them, bit by bit of a word, and how many bytes they are.
 -- Assumes nothing.
-use mathlib.Core.Path.{_≡_, refl, sym, ap, ap₂, subst, _∙_}
+use mathlib.Core.Path.{_≡_, refl, sym, ap, ap₂, _∙_}
 use mathlib.Core.Bool.{Bool, true, false, cond, _||_}
 use mathlib.Core.List.{List, [], _∷_, _++_, append-nil}
 use Prim.Native.Nat.{ℕ, zero, suc, _+_, _-_, _*_, _/_, _%_, _^_, _≤_, _<_}
-use native.Mathlib.Nat.{zero-add, lt-of-lt-of-le, div-eq-of-lt, mod-lt, mod-add-div'}
-use native.Mathlib.Decide.{decLt}
+use native.Mathlib.Nat.{zero-add, lt-of-lt-of-le}
 use native.Mathlib.Omega.{arith}
 use lib.Arith.{lt-one}
-use lib.Dec.{eqb}
 use lib.ListN.{length, getD, replicate, length-append}
-use lib.Pow.{pow-mono, pow-pos, shr-shr}
+use lib.Pow.{pow-mono}
 use lib.Bits.{bitOr, or-lt}
 use lib.Count.{onesIn, ones, ones-step}
-use Rattle.words.specs.Word.{odd, bit}
+use Rattle.words.specs.Word.{bit}
 use Rattle.words.specs.Loop.{count}
-use Rattle.words.proofs.BitLaws.{bit-or, bit-above, half-lt}
+use Rattle.words.proofs.BitLaws.{bit-or, half-lt}
 use Rattle.words.proofs.PopcountLaws.{ones-count, count-le}
 use Rattle.scan.specs.declared.set.Constraint.{Constraint}
 use Rattle.scan.specs.declared.set.Set.{Set}
@@ -24,31 +22,6 @@ use Rattle.scan.specs.Shape.{wellFormed}
 use Rattle.scan.proofs.ShapeLaws.{counts, masks, outs-lt}
 use Rattle.writer.specs.Write.{readLiteral, outputLiteral, joined, literalBody}
 use Rattle.writer.specs.way.Write.{signedBy, literalAt, literalsAt}
-
--- ---- bit by bit of a word
-
--- the word without its first k bits, which are gone through
-pub rest-one : (w k left : ℕ) → left ≡ w / 2 ^ k → left / 2 ≡ w / 2 ^ (k + 1)
-rest-one w k left e = ap (λ (x : ℕ). x / 2) e ∙ shr-shr w k 1
-
--- where something is left, not all of n bits are gone through
-pub rest-more : (w n k left : ℕ) → w < 2 ^ n → left ≡ w / 2 ^ k → 0 < left → k < n
-rest-more w n k left h e l = go (decLt k n)
-  where
-    go : Dec (k < n) → k < n
-    go (yes below) = below
-    go (no not-below) =
-        let beyond : n ≤ k = omega arith in
-        let small : w < 2 ^ k = lt-of-lt-of-le h (pow-mono beyond) in
-        let none : left ≡ 0 = e ∙ div-eq-of-lt small in
-        absurd (omega arith)
-
--- where nothing is left, the word has no bit from k on
-rest-none : (w k left : ℕ) → left ≡ w / 2 ^ k → left ≤ 0 → (j : ℕ) → k ≤ j → bit j w ≡ false
-rest-none w k left e none j h =
-    let zero-left : w / 2 ^ k ≡ 0 = sym e ∙ omega arith in
-    let small : w < 2 ^ k = omega (arith, mod-lt w {m = 2 ^ k} (pow-pos k), subst (λ (x : ℕ). w % 2 ^ k + x * 2 ^ k ≡ w) zero-left (mod-add-div' w (2 ^ k))) in
-    bit-above k j w small h
 
 -- ---- a literal, as the code puts it
 
@@ -80,30 +53,30 @@ module _ (c : Constraint) (k : ℕ) where
       (λ i. cond (bit-or k p n i) (cond (bit k p) (0x40 + k) (e i) ∷ rank c k ∷ []) []) ∙ literal-told (bit k p) (bit k n) (0x40 + k) (0xC0 + k) (rank c k)
 
 -- what gives nothing from r on
-joined-short : (f : ℕ → List ℕ) (r more : ℕ) → ((k : ℕ) → r ≤ k → f k ≡ []) → joined (more + r) f ≡ joined r f
+joined-short : (f : ℕ → List ℕ) (r more : ℕ) → ((k : ℕ) → r ≤ k → k < more + r → f k ≡ []) → joined (more + r) f ≡ joined r f
 unfolding joined
 joined-short f r zero h = ap (λ (j : ℕ). joined j f) (zero-add r)
 joined-short f r (suc more) h =
     let e : suc more + r ≡ suc (more + r) = omega arith in
-    ap (λ (j : ℕ). joined j f) e ∙ ap₂ _++_ (joined-short f r more h) (h (more + r) (omega arith)) ∙ append-nil (joined r f)
+    ap (λ (j : ℕ). joined j f) e ∙ ap₂ _++_ (joined-short f r more (λ k l m. h k l (omega arith))) (h (more + r) (omega arith) (omega arith)) ∙ append-nil (joined r f)
 
 module _ (base plain named : ℕ) (ranks : List ℕ) where
-  -- the literal of point k, told by what is left of the word
-  pub literal-here : (k left number : ℕ) → left ≡ named / 2 ^ k → number ≡ signedBy (bit k plain) (base + k)
-      → cond (eqb (left % 2) 1) (number ∷ getD ranks k 0 ∷ []) [] ≡ literalAt base plain named ranks k
-  unfolding bit odd literalAt
-  literal-here k left number e n = λ i. cond (eqb (e i % 2) 1) (n i ∷ getD ranks k 0 ∷ []) []
+  -- the literal of a point that is named
+  pub literal-here : (k number : ℕ) → bit k named ≡ true → number ≡ signedBy (bit k plain) (base + k) → literalAt base plain named ranks k ≡ number ∷ getD ranks k 0 ∷ []
+  unfolding literalAt
+  literal-here k number e n = λ i. cond (e i) (sym n i ∷ getD ranks k 0 ∷ []) []
 
   literal-none : (k : ℕ) → bit k named ≡ false → literalAt base plain named ranks k ≡ []
   unfolding literalAt
   literal-none k e = ap (λ (b : Bool). cond b (signedBy (bit k plain) (base + k) ∷ getD ranks k 0 ∷ []) []) e
 
-  -- where nothing is left, all literals are there
-  pub literals-end : (k left : ℕ) → k ≤ length ranks → left ≡ named / 2 ^ k → left ≤ 0 → joined k (literalAt base plain named ranks) ≡ literalsAt base plain named ranks
-  literals-end k left h e none =
+  -- points that are not named have none
+  pub literals-skip : (k t : ℕ) → k ≤ t → ((j : ℕ) → k ≤ j → j < t → bit j named ≡ false)
+      → joined k (literalAt base plain named ranks) ≡ joined t (literalAt base plain named ranks)
+  literals-skip k t h none =
       let f = literalAt base plain named ranks in
-      let whole : length ranks - k + k ≡ length ranks = omega arith in
-      sym (joined-short f k (length ranks - k) (λ j l. literal-none j (rest-none named k left e none j l))) ∙ ap (λ (j : ℕ). joined j f) whole
+      let whole : t - k + k ≡ t = omega arith in
+      sym (joined-short f k (t - k) (λ j l m. literal-none j (none j l (omega arith)))) ∙ ap (λ (j : ℕ). joined j f) whole
 
 joined-same : (f g : ℕ → List ℕ) → ((k : ℕ) → f k ≡ g k) → (n : ℕ) → joined n f ≡ joined n g
 unfolding joined

@@ -10,7 +10,6 @@ use scan::NAME_PLACES;
 use scan::OutputPoint;
 use scan::ReadPoint;
 ghost use mathlib.Core.Path.{_≡_};
-ghost use mathlib.Core.Bool.{cond};
 ghost use mathlib.Core.List.{[], _∷_};
 ghost use Prim.Native.Nat.{_+_, _*_, _/_, _%_, _^_, _≤_, _<_};
 ghost use lib.ListN.{length};
@@ -123,17 +122,6 @@ pub fn put_output(buf: &mut [u8], at: usize, p: OutputPoint) -> usize
     put_name(&mut *buf, body, name, len)
 }
 
-// The two bytes, where they are to be there.
-fn put_literal(buf: &mut [u8], at: usize, here: bool, first: u8, second: u8) -> usize
-    requires { ⌜ at + length (cond here (first ∷ second ∷ []) []) ≤ length (now buf) ⌝ }
-    ensures { λ r. ⌜ Put (now (buf .entry)) at (cond here (first ∷ second ∷ []) []) (now (buf .exit)) r ⌝ }
-{
-    if here {
-        return put_two(&mut *buf, at, first, second);
-    }
-    at
-}
-
 // The number of a literal's point, with the top bit set where it is negated.
 fn signed(plain: bool, number: u8) -> u8
     requires { ⌜ number < 0x80 ⌝ }
@@ -142,19 +130,18 @@ fn signed(plain: bool, number: u8) -> u8
     if plain { number } else { 0x80 + number }
 }
 
-// The literals of the points that are named, numbered from `base` on, each with its rank.
+// The literals of the points that are named, numbered from `base` on, each with its rank. Each turn takes the lowest point that is left.
 fn put_literals(buf: &mut [u8], at: usize, base: u8, plain: u32, named: u32, ranks: &[u8]) -> usize
     requires { ⌜ (base ≤ 0x40) × (length (now ranks) < 32) × (named < 2 ^ length (now ranks)) × (at + length (literalsAt base plain named (now ranks)) ≤ length (now buf)) ⌝ }
     ensures { λ r. ⌜ Put (now (buf .entry)) at (literalsAt base plain named (now (ranks .entry))) (now (buf .exit)) r ⌝ }
 {
     let mut next = at;
     let mut left = named;
-    let mut k: usize = 0;
     while 0 < left {
+        let k = u32::trailing_zeros(left) as usize;
         let number = signed((plain >> k) % 2 == 1, base + k as u8);
-        next = put_literal(&mut *buf, next, left % 2 == 1, number, ranks[k]);
-        left = left / 2;
-        k = k + 1;
+        next = put_two(&mut *buf, next, number, ranks[k]);
+        left = left & (left - 1);
     }
     next
 }

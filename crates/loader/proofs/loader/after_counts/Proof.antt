@@ -1,8 +1,9 @@
--- `loader::loader::after_counts` meets its contract: it goes on from where its first part has come to, or stays refused. Assumes nothing.
-use mathlib.Core.Path.{_∙_}
+-- `loader::loader::after_counts` meets its contract: it goes on from where the read points have brought the load, or stays refused. Assumes nothing.
+use mathlib.Core.Path.{_∙_, ap}
 use denote.Ref.{now}
-use Rattle.loader.specs.Load.{afterReads, readAt, readsFrom}
-use Rattle.loader.proofs.LoadKeeps.{still-range, read-row, row-keeps, stays, goes}
+use Rattle.scan.specs.Set.{withReads}
+use Rattle.loader.specs.Load.{answered, ofCounts, afterReads}
+use Rattle.loader.proofs.RunLaws.{stays, goes}
 use borrow.Author.Needs.{needs}
 use Rattle.loader.proofs.loader.after_counts.Statement.{statement}
 use Rattle.loader.proofs.loader.after_counts.Tie as tie
@@ -10,35 +11,44 @@ use Rattle.loader.proofs.loader.after_counts.Tie as tie
 reads-at-requires : tie.Need-reads-at-requires
 reads-at-requires c κs = search needs
 
-enum-told : tie.Need-enum-told
-enum-told c = search needs
-
 enum-known-p : tie.Need-enum-known-p
 enum-known-p c = search needs
 
+refused-requires : tie.Need-refused-requires
+refused-requires c κs = search needs
+
+enum-known-p-2 : tie.Need-enum-known-p-2
+enum-known-p-2 c = search needs
+
 after-reads-requires : tie.Need-after-reads-requires
-after-reads-requires c κs =
-    let p = c .before in
-    let f = p .before .before in
-    let s = f .before .before in
-    let a = s .args in
-    let w = now (a .s) in
-    still-range (a .set) (f .reads-at .result) _ _ (f .reads-at .ensures) (row-keeps (readAt w) (readsFrom w) (read-row w) (a .set .r) 0 (a .at) (a .set)) (p .p .given .1) (s .pre)
+after-reads-requires c κs = search needs
 
 returns : tie.Need-returns
 returns c =
-    let f = c .before .before in
-    let a = f .before .before .args in
-    stays (f .reads-at .result) _ (afterReads (now (a .s))) (f .reads-at .ensures) _ _ (c .enum-told .given .1)
+    let p = c .before .before in
+    let f = p .before .before in
+    let a = f .before .before .before .args in
+    let l = f .reads-at .result in
+    c .refused .ensures
+    ∙ ap answered (stays _ (afterReads (now (a .s))) (l .progress) (withReads (ofCounts (a .r) (a .n)) (l .reads)) (f .reads-at .ensures .0) _ _ (p .p .given .1))
 
 returns-2 : tie.Need-returns-2
 returns-2 c =
-    let p = c .before .before in
+    let p = c .before .before .before .before in
     let f = p .before .before in
-    let a = f .before .before .args in
-    c .after-reads .ensures ∙ goes (f .reads-at .result) _ (afterReads (now (a .s))) (f .reads-at .ensures) _ (p .p .given .1)
+    let a = f .before .before .before .args in
+    let l = f .reads-at .result in
+    c .after-reads .ensures
+    ∙ ap answered (goes _ (afterReads (now (a .s))) (l .progress) (withReads (ofCounts (a .r) (a .n)) (l .reads)) (f .reads-at .ensures .0) _ (p .p2 .given .1))
 
 pub after-counts-spec : {M : Type 1} → statement M
 after-counts-spec =
     tie.close
-    (tie.spec reads-at-requires enum-told enum-known-p after-reads-requires returns returns-2)
+    (tie.spec
+    reads-at-requires
+    enum-known-p
+    refused-requires
+    enum-known-p-2
+    after-reads-requires
+    returns
+    returns-2)

@@ -1,160 +1,104 @@
--- `loader::loader::outputs_at` meets its contract. The loop's invariant: the fields from here on, on the set so far, give what all of them give on the set at the start. Assumes nothing.
-use mathlib.Core.Path.{_≡_, refl, sym, _∙_, ap}
-use Prim.Native.Nat.{_+_, _-_, _≤_}
+-- `loader::loader::outputs_at` meets its contract. The loop's invariant: the fields from here on, behind the outputs so far, give what all of them give,
+-- whichever read points have the names; the list of names is that of the outputs so far. Assumes nothing.
+use mathlib.Core.Path.{_≡_}
+use mathlib.Core.List.{List}
+use Prim.Native.Nat.{_-_, _≤_, _<_}
 use native.Mathlib.Nat.{sub-zero}
 use native.Mathlib.Omega.{arith}
-use lib.ListN.{length, drop}
 use denote.Ref.{now}
-use Rattle.header.specs.declared.header.Header.the-variants.{Field}
-use Rattle.header.specs.Header.{headerOf}
-use Rattle.loader.specs.Load.{refusal, goingOn, withOutput, outputAt, outputsFrom}
-use Rattle.header.proofs.HeaderLaws.{field-within, output-length, front-place, front-header}
-use Rattle.loader.proofs.LoadLaws.{body-long, output-stopped, output-done}
-use Rattle.loader.proofs.LoadKeeps.{output-row, row-end, row-stays, row-goes}
+use Rattle.scan.specs.declared.set.ReadPoint.{ReadPoint}
+use Rattle.scan.specs.Set.{mostOutputs, zeroSet, withReads}
+use Rattle.shape.specs.way.Names.{ReadNames}
+use Rattle.loader.specs.Load.{ofCounts, withOutput, outputAt, outputsFrom}
+use Rattle.loader.specs.way.Load.{pointsSet, reached}
+use Rattle.loader.proofs.RunLaws.{output-row, row-end, row-stays, row-goes}
+use Rattle.loader.proofs.WayLaws.{OutputsKnown, outputs-none, outputs-more, output-stepped}
 use borrow.Author.Needs.{needs}
 use Rattle.loader.proofs.loader.outputs_at.Statement.{statement}
 use Rattle.loader.proofs.loader.outputs_at.Tie as tie
 
 abbrev Inv-loop : tie.InvT-loop
-Inv-loop s at n next₀ so-far₀ j₀ next so-far j = (j ≤ n) × (so-far .r ≤ 16) × (outputsFrom s n 0 next₀ so-far₀ ≡ outputsFrom s (n - j) j next so-far)
+Inv-loop s at names r n outputs₀ own₀ next₀ j₀ outputs own next j =
+    (j ≤ n) × OutputsKnown own outputs
+    × ((reads : List ReadPoint) → ReadNames names reads → outputsFrom s n 0 at (withReads (ofCounts r n) reads) ≡ outputsFrom s (n - j) j next (pointsSet r n reads outputs))
 
 abbrev μ-loop : tie.MeasureT-loop
-μ-loop s at n next₀ so-far₀ j₀ next so-far j = n - j
+μ-loop s at names r n outputs₀ own₀ next₀ j₀ outputs own next j = n - j
 
 loop-holds : tie.Need-loop-holds Inv-loop μ-loop
-loop-holds c = (search needs, c .before .pre .0, rw sub-zero)
+unfolding zeroSet
+loop-holds c = (search needs, outputs-none, λ reads named. rw sub-zero)
 
-front-at-requires : tie.Need-front-at-requires Inv-loop μ-loop
-front-at-requires c κs = search needs
-
-enum-known-header : tie.Need-enum-known-header Inv-loop μ-loop
-enum-known-header c = search needs
-
-refused-requires : tie.Need-refused-requires Inv-loop μ-loop
-refused-requires c κs = search needs
-
--- the field is at the loop's place, and its header is the one there
-place : (c : tie.After-front-at Inv-loop μ-loop) → c .front-at .result .at ≡ c .before .before .loop .next
-place c = front-place (now (c .before .before .before .before .args .s)) (c .before .before .loop .next) 3 0 (c .front-at .result) (c .front-at .ensures)
-
-header : (c : tie.After-front-at Inv-loop μ-loop) → headerOf (drop (c .front-at .result .at) (now (c .before .before .before .before .args .s))) 3 0 ≡ c .front-at .result .header
-header c = front-header (now (c .before .before .before .before .args .s)) (c .before .before .loop .next) 3 0 (c .front-at .result) (c .front-at .ensures)
-
--- what is loaded there is what is due at the loop's place
-there : (c : tie.After-front-at Inv-loop μ-loop) → outputAt (now (c .before .before .before .before .args .s)) (c .front-at .result .at) (c .before .before .loop .so-far) (c .before .before .loop .j) ≡ outputAt (now (c .before .before .before .before .args .s)) (c .before .before .loop .next) (c .before .before .loop .so-far) (c .before .before .loop .j)
-there c = ap (λ x. outputAt (now (c .before .before .before .before .args .s)) x (c .before .before .loop .so-far) (c .before .before .loop .j)) (place c)
-
-returns : tie.Need-returns Inv-loop μ-loop
-returns c =
-    let k = c .before .before in
-    let h = k .before .before in
-    let l = h .before .before .loop in
-    let s = now (h .before .before .before .before .args .s) in
-    c .refused .ensures
-    ∙ row-stays (outputAt s) (outputsFrom s) (output-row s) _ _ (l .j) (l .next) (l .so-far) (l .inv .2) (h .before .loop-test .taken) (refusal (k .header .given .0 .0) (h .front-at .result .at))
-    (sym (output-stopped s (h .front-at .result .at) (l .so-far) (l .j) (k .header .given .0 .0) (header h ∙ k .header .given .1)) ∙ there h) _ _ refl
-
-enum-known-header-2 : tie.Need-enum-known-header-2 Inv-loop μ-loop
-enum-known-header-2 c = search needs
-
--- what the header tells
-here : (c : tie.After-known-told2 Inv-loop μ-loop) → headerOf (drop (c .before .before .before .front-at .result .at) (now (c .before .before .before .before .before .before .before .args .s))) 3 0 ≡ Field (c .before .header2 .given .0 .0) (c .before .header2 .given .0 .1 .0)
-here c = header (c .before .before .before) ∙ c .before .header2 .given .1
-
-whole : (c : tie.After-known-told2 Inv-loop μ-loop) → c .before .before .before .front-at .result .at + 3 + c .before .header2 .given .0 .1 .0 ≤ length (now (c .before .before .before .before .before .before .before .args .s))
-whole c = field-within _ _ 3 0 _ _ (here c)
-
-add-output-field : tie.Need-add-output-field Inv-loop μ-loop
-add-output-field c = omega (arith, whole c, c .before .before .before .before .before .before .before .good)
-
-add-output-field-2 : tie.Need-add-output-field-2 Inv-loop μ-loop
-add-output-field-2 c = omega (arith, whole c, c .before .before .before .before .before .before .before .good)
-
-add-output-field-3 : tie.Need-add-output-field-3 Inv-loop μ-loop
-add-output-field-3 c = omega (arith, whole c, c .before .before .before .before .before .before .before .good)
-
-sub-output-field : tie.Need-sub-output-field Inv-loop μ-loop
-sub-output-field c = omega arith
-
-part-output-field-start : tie.Need-part-output-field-start Inv-loop μ-loop
-part-output-field-start c = search needs
-
-part-output-field-end : tie.Need-part-output-field-end Inv-loop μ-loop
-part-output-field-end c = whole c
-
-output-field-requires : tie.Need-output-field-requires Inv-loop μ-loop
-output-field-requires c κs =
-    let k = c .before in
-    let h = k .before .before .before in
-    let s = h .before .before .before .before in
-    let t = body-long (now (s .args .s)) (h .front-at .result .at) (k .before .header2 .given .0 .1 .0) (whole k) in
-    let b = output-length _ _ _ (here k) in
-    (omega (arith, t, b), h .before .before .loop .inv .1, omega (arith, s .pre, h .before .loop-test .taken))
-
-enum-known-point : tie.Need-enum-known-point Inv-loop μ-loop
-enum-known-point c = search needs
-
-refused-requires-2 : tie.Need-refused-requires-2 Inv-loop μ-loop
-refused-requires-2 c κs = search needs
-
-returns-2 : tie.Need-returns-2 Inv-loop μ-loop
-returns-2 c =
-    let f = c .before .before .before .before in
-    let k = f .before .before in
-    let h = k .before .before .before in
-    let l = h .before .before .loop in
-    let s = now (h .before .before .before .before .args .s) in
-    c .refused2 .ensures
-    ∙ row-stays (outputAt s) (outputsFrom s) (output-row s) _ _ (l .j) (l .next) (l .so-far) (l .inv .2) (h .before .loop-test .taken) (refusal (c .before .before .point .given .0 .0) (h .front-at .result .at))
-    (sym (output-done s (h .front-at .result .at) (l .so-far) (l .j) _ _ (f .output-field .result) _ (here k) (f .output-field .ensures) (c .before .before .point .given .1)) ∙ there h) _ _ refl
+output-at-requires : tie.Need-output-at-requires Inv-loop μ-loop
+output-at-requires c κs = search needs
 
 enum-told : tie.Need-enum-told Inv-loop μ-loop
 enum-told c = search needs
 
--- where the loop stands
-at-loop : (c : tie.After-output Inv-loop μ-loop) → tie.After-front-at Inv-loop μ-loop
-at-loop c = c .before .before .before .before .before .before .before .before
+-- where the step stands in the loop, and what it brings the load to
+module _ (c : tie.After-output-at Inv-loop μ-loop) where
+  abbrev turn : tie.In-loop Inv-loop μ-loop
+  turn = c .before .before
 
-mul-output : tie.Need-mul-output Inv-loop μ-loop
-mul-output c = omega (arith, at-loop c .before .loop-test .taken, at-loop c .before .before .before .before .pre)
+  below : turn .before .loop .j < mostOutputs
+  below = omega (arith, turn .loop-test .taken, turn .before .before .before .pre .1)
 
-element-set-from-output : tie.Need-element-set-from-output Inv-loop μ-loop
-element-set-from-output c = omega (arith, at-loop c .before .loop-test .taken, at-loop c .before .before .before .before .pre)
+  stepped : (reads : List ReadPoint) → let l = turn .before .loop in
+      let a = turn .before .before .before .args in
+      let so-far = pointsSet (a .r) (a .n) reads (l .outputs) in
+      ReadNames (now (a .names)) reads → outputAt (now (a .s)) (l .next) so-far (l .j) ≡ reached (c .output-at .result .progress) (withOutput so-far (l .j) (c .output-at .result .name))
+  stepped reads named =
+      let l = turn .before .loop in
+      let a = turn .before .before .before .args in
+      output-stepped (now (a .s)) (l .next) (pointsSet (a .r) (a .n) reads (l .outputs)) (now (a .names)) (l .own) (l .j) (c .output-at .result)
+      named (l .inv .1 .named) (turn .before .before .before .pre .0) (omega (arith, below)) (c .output-at .ensures)
 
-add-next : tie.Need-add-next Inv-loop μ-loop
-add-next c = omega (arith, whole (c .before .before .before .before .before), at-loop c .before .before .before .before .good)
+returns : tie.Need-returns Inv-loop μ-loop
+returns c reads named =
+    let h = c .before .before in
+    let t = turn h in
+    let l = t .before .loop in
+    let s = now (t .before .before .before .args .s) in
+    row-stays (outputAt s) (outputsFrom s) (output-row s) _ _ (l .j) (l .next) _ (l .inv .2 reads named) (t .loop-test .taken) (h .output-at .result .progress) _ (stepped h reads named) _ _ _ (c .enum-told .given .1)
 
-add-next-2 : tie.Need-add-next-2 Inv-loop μ-loop
-add-next-2 c = omega (arith, whole (c .before .before .before .before .before), at-loop c .before .before .before .before .good)
+enum-known-progress : tie.Need-enum-known-progress Inv-loop μ-loop
+enum-known-progress c = search needs
+
+mul-outputs : tie.Need-mul-outputs Inv-loop μ-loop
+mul-outputs c = omega (arith, below (c .before .before .before .before))
+
+array-set-from-outputs : tie.Need-array-set-from-outputs Inv-loop μ-loop
+array-set-from-outputs c = below (c .before .before .before .before)
+
+mul-own : tie.Need-mul-own Inv-loop μ-loop
+mul-own c = omega (arith, below (c .before .before .before .before))
+
+array-set-from-own : tie.Need-array-set-from-own Inv-loop μ-loop
+array-set-from-own c = below (c .before .before .before .before)
 
 add-j : tie.Need-add-j Inv-loop μ-loop
-add-j c = omega (arith, at-loop c .before .loop-test .taken, at-loop c .before .before .before .before .pre)
+add-j c = omega (arith, below (c .before .before .before .before))
 
 loop-less : tie.Need-loop-less Inv-loop μ-loop
-loop-less c = omega (arith, at-loop c .before .loop-test .taken)
+loop-less c = let t = turn (c .before .before .before .before) in omega (arith, t .loop-test .taken)
 
 loop-again : tie.Need-loop-again Inv-loop μ-loop
 loop-again c =
-    let f = c .before .before .before in
-    let k = f .before .before in
-    let h = k .before .before .before in
-    let l = h .before .before .loop in
-    let s = now (h .before .before .before .before .args .s) in (
-      omega (arith, h .before .loop-test .taken),
-      l .inv .1,
-      row-goes (outputAt s) (outputsFrom s) (output-row s) _ _ (l .j) (l .next) (l .so-far) (l .inv .2) (h .before .loop-test .taken)
-          (goingOn (h .front-at .result .at + 3 + k .before .header2 .given .0 .1 .0) (withOutput (l .so-far) (l .j) (f .output-field .result .output)))
-          (sym (output-done s (h .front-at .result .at) (l .so-far) (l .j) _ _ (f .output-field .result) _ (here k) (f .output-field .ensures) (c .before .enum-told .given .1)) ∙ there h) _ refl,
+    let g = c .before .before in
+    let h = g .before .before in
+    let t = turn h in
+    let l = t .before .loop in
+    let s = now (t .before .before .before .args .s) in (
+      omega (arith, t .loop-test .taken),
+      outputs-more (l .own) (l .outputs) (l .j) (record { name = h .output-at .result .name }) (below h) (l .inv .1),
+      λ reads named. row-goes (outputAt s) (outputsFrom s) (output-row s) _ _ (l .j) (l .next) _ (l .inv .2 reads named) (t .loop-test .taken) (h .output-at .result .progress) _ (stepped h reads named) _ (g .progress .given .1),
     )
 
-going-on-requires : tie.Need-going-on-requires Inv-loop μ-loop
-going-on-requires c κs = search needs
-
-returns-3 : tie.Need-returns-3 Inv-loop μ-loop
-returns-3 c =
-    let l = c .before .before .loop in
-    let s = now (c .before .before .before .before .args .s) in
-    c .going-on .ensures ∙ row-end (outputAt s) (outputsFrom s) (output-row s) _ _ (l .j) (l .next) (l .so-far) (l .inv .2) (c .before .loop-test .left)
+returns-2 : tie.Need-returns-2 Inv-loop μ-loop
+returns-2 c reads named =
+    let l = c .before .loop in
+    let s = now (c .before .before .before .args .s) in
+    row-end (outputAt s) (outputsFrom s) (output-row s) _ _ (l .j) (l .next) _ (l .inv .2 reads named) (c .loop-test .left)
 
 pub outputs-at-spec : {M : Type 1} → statement M
 outputs-at-spec =
@@ -163,28 +107,15 @@ outputs-at-spec =
     Inv-loop
     μ-loop
     loop-holds
-    front-at-requires
-    enum-known-header
-    refused-requires
-    returns
-    enum-known-header-2
-    add-output-field
-    add-output-field-2
-    add-output-field-3
-    sub-output-field
-    part-output-field-start
-    part-output-field-end
-    output-field-requires
-    enum-known-point
-    refused-requires-2
-    returns-2
+    output-at-requires
     enum-told
-    mul-output
-    element-set-from-output
-    add-next
-    add-next-2
+    returns
+    enum-known-progress
+    mul-outputs
+    array-set-from-outputs
+    mul-own
+    array-set-from-own
     add-j
     loop-less
     loop-again
-    going-on-requires
-    returns-3)
+    returns-2)

@@ -1,159 +1,109 @@
--- `loader::loader::reads_at` meets its contract. The loop's invariant: the fields from here on, on the set so far, give what all of them give on the set at the start. Assumes nothing.
-use mathlib.Core.Path.{_≡_, refl, sym, _∙_, ap}
-use Prim.Native.Nat.{_+_, _-_, _≤_}
+-- `loader::loader::reads_at` meets its contract. The loop's invariant: the fields from here on, behind the read points so far, give what all of them
+-- give; the names and the list of pasts are those of the read points so far. Assumes nothing.
+use mathlib.Core.Path.{_≡_, refl, sym, subst}
+use Prim.Native.Nat.{_-_, _≤_, _<_}
 use native.Mathlib.Nat.{sub-zero}
 use native.Mathlib.Omega.{arith}
-use lib.ListN.{length, drop}
 use denote.Ref.{now}
-use Rattle.header.specs.declared.header.Header.the-variants.{Field}
-use Rattle.header.specs.Header.{headerOf}
-use Rattle.loader.specs.Load.{refusal, goingOn, withRead, readAt, readsFrom}
-use Rattle.header.proofs.HeaderLaws.{field-within, read-length, front-place, front-header}
-use Rattle.loader.proofs.LoadLaws.{body-long, read-stopped, read-done}
-use Rattle.loader.proofs.LoadKeeps.{read-row, row-end, row-stays, row-goes}
+use Rattle.scan.specs.Set.{mostReads, zeroSet, withReads}
+use Rattle.loader.specs.Load.{ofCounts, readAt, readsFrom, withRead}
+use Rattle.loader.specs.way.Load.{reached}
+use Rattle.loader.proofs.RunLaws.{read-row, row-end, row-stays, row-goes}
+use Rattle.loader.proofs.WayLaws.{ReadsKnown, reads-none, reads-more, read-stepped}
 use borrow.Author.Needs.{needs}
 use Rattle.loader.proofs.loader.reads_at.Statement.{statement}
 use Rattle.loader.proofs.loader.reads_at.Tie as tie
 
 abbrev Inv-loop : tie.InvT-loop
-Inv-loop s at r next₀ so-far₀ i₀ next so-far i = (i ≤ r) × (readsFrom s r 0 next₀ so-far₀ ≡ readsFrom s (r - i) i next so-far)
+Inv-loop s at r n names₀ outputs reads₀ pasts₀ next₀ i₀ names reads pasts next i =
+    (i ≤ r) × ReadsKnown names pasts reads × (readsFrom s r 0 at (ofCounts r n) ≡ readsFrom s (r - i) i next (withReads (ofCounts r n) reads))
 
 abbrev μ-loop : tie.MeasureT-loop
-μ-loop s at r next₀ so-far₀ i₀ next so-far i = r - i
+μ-loop s at r n names₀ outputs reads₀ pasts₀ next₀ i₀ names reads pasts next i = r - i
 
 loop-holds : tie.Need-loop-holds Inv-loop μ-loop
-loop-holds c = (search needs, rw sub-zero)
+unfolding zeroSet
+loop-holds c = let n = c .before .pre .1 in (search needs, subst (λ names. ReadsKnown names _ _) (sym n) reads-none, rw sub-zero)
 
-front-at-requires : tie.Need-front-at-requires Inv-loop μ-loop
-front-at-requires c κs = search needs
-
-enum-known-header : tie.Need-enum-known-header Inv-loop μ-loop
-enum-known-header c = search needs
-
-refused-requires : tie.Need-refused-requires Inv-loop μ-loop
-refused-requires c κs = search needs
-
--- the field is at the loop's place, and its header is the one there
-place : (c : tie.After-front-at Inv-loop μ-loop) → c .front-at .result .at ≡ c .before .before .loop .next
-place c = front-place (now (c .before .before .before .before .args .s)) (c .before .before .loop .next) 2 0 (c .front-at .result) (c .front-at .ensures)
-
-header : (c : tie.After-front-at Inv-loop μ-loop) → headerOf (drop (c .front-at .result .at) (now (c .before .before .before .before .args .s))) 2 0 ≡ c .front-at .result .header
-header c = front-header (now (c .before .before .before .before .args .s)) (c .before .before .loop .next) 2 0 (c .front-at .result) (c .front-at .ensures)
-
--- what is loaded there is what is due at the loop's place
-there : (c : tie.After-front-at Inv-loop μ-loop) → readAt (now (c .before .before .before .before .args .s)) (c .front-at .result .at) (c .before .before .loop .so-far) (c .before .before .loop .i) ≡ readAt (now (c .before .before .before .before .args .s)) (c .before .before .loop .next) (c .before .before .loop .so-far) (c .before .before .loop .i)
-there c = ap (λ x. readAt (now (c .before .before .before .before .args .s)) x (c .before .before .loop .so-far) (c .before .before .loop .i)) (place c)
-
-returns : tie.Need-returns Inv-loop μ-loop
-returns c =
-    let k = c .before .before in
-    let h = k .before .before in
-    let l = h .before .before .loop in
-    let s = now (h .before .before .before .before .args .s) in
-    c .refused .ensures
-    ∙ row-stays (readAt s) (readsFrom s) (read-row s) _ _ (l .i) (l .next) (l .so-far) (l .inv .1) (h .before .loop-test .taken) (refusal (k .header .given .0 .0) (h .front-at .result .at))
-    (sym (read-stopped s (h .front-at .result .at) (l .so-far) (l .i) (k .header .given .0 .0) (header h ∙ k .header .given .1)) ∙ there h) _ _ refl
-
-enum-known-header-2 : tie.Need-enum-known-header-2 Inv-loop μ-loop
-enum-known-header-2 c = search needs
-
--- what the header tells
-here : (c : tie.After-known-told2 Inv-loop μ-loop) → headerOf (drop (c .before .before .before .front-at .result .at) (now (c .before .before .before .before .before .before .before .args .s))) 2 0 ≡ Field (c .before .header2 .given .0 .0) (c .before .header2 .given .0 .1 .0)
-here c = header (c .before .before .before) ∙ c .before .header2 .given .1
-
-whole : (c : tie.After-known-told2 Inv-loop μ-loop) → c .before .before .before .front-at .result .at + 3 + c .before .header2 .given .0 .1 .0 ≤ length (now (c .before .before .before .before .before .before .before .args .s))
-whole c = field-within _ _ 2 0 _ _ (here c)
-
-add-read-field : tie.Need-add-read-field Inv-loop μ-loop
-add-read-field c = omega (arith, whole c, c .before .before .before .before .before .before .before .good)
-
-add-read-field-2 : tie.Need-add-read-field-2 Inv-loop μ-loop
-add-read-field-2 c = omega (arith, whole c, c .before .before .before .before .before .before .before .good)
-
-add-read-field-3 : tie.Need-add-read-field-3 Inv-loop μ-loop
-add-read-field-3 c = omega (arith, whole c, c .before .before .before .before .before .before .before .good)
-
-sub-read-field : tie.Need-sub-read-field Inv-loop μ-loop
-sub-read-field c = omega arith
-
-part-read-field-start : tie.Need-part-read-field-start Inv-loop μ-loop
-part-read-field-start c = search needs
-
-part-read-field-end : tie.Need-part-read-field-end Inv-loop μ-loop
-part-read-field-end c = whole c
-
-read-field-requires : tie.Need-read-field-requires Inv-loop μ-loop
-read-field-requires c κs =
-    let k = c .before in
-    let h = k .before .before .before in
-    let s = h .before .before .before .before in
-    let t = body-long (now (s .args .s)) (h .front-at .result .at) (k .before .header2 .given .0 .1 .0) (whole k) in
-    let b = read-length _ _ _ (here k) in
-    (omega (arith, t, b), omega (arith, t, b), omega (arith, s .pre, h .before .loop-test .taken))
-
-enum-known-point : tie.Need-enum-known-point Inv-loop μ-loop
-enum-known-point c = search needs
-
-refused-requires-2 : tie.Need-refused-requires-2 Inv-loop μ-loop
-refused-requires-2 c κs = search needs
-
-returns-2 : tie.Need-returns-2 Inv-loop μ-loop
-returns-2 c =
-    let f = c .before .before .before .before in
-    let k = f .before .before in
-    let h = k .before .before .before in
-    let l = h .before .before .loop in
-    let s = now (h .before .before .before .before .args .s) in
-    c .refused2 .ensures
-    ∙ row-stays (readAt s) (readsFrom s) (read-row s) _ _ (l .i) (l .next) (l .so-far) (l .inv .1) (h .before .loop-test .taken) (refusal (c .before .before .point .given .0 .0) (h .front-at .result .at))
-    (sym (read-done s (h .front-at .result .at) (l .so-far) (l .i) _ _ (f .read-field .result) _ (here k) (f .read-field .ensures) (c .before .before .point .given .1)) ∙ there h) _ _ refl
+read-at-requires : tie.Need-read-at-requires Inv-loop μ-loop
+read-at-requires c κs = let t = c .before .before .before in omega (arith, t .loop-test .taken, t .before .before .before .pre .0)
 
 enum-told : tie.Need-enum-told Inv-loop μ-loop
 enum-told c = search needs
 
--- where the loop stands
-at-loop : (c : tie.After-read Inv-loop μ-loop) → tie.After-front-at Inv-loop μ-loop
-at-loop c = c .before .before .before .before .before .before .before .before
+-- where the step stands in the loop, and what it brings the load to
+module _ (c : tie.After-read-at Inv-loop μ-loop) where
+  abbrev turn : tie.In-loop Inv-loop μ-loop
+  turn = c .before .before .before .before
 
-mul-read : tie.Need-mul-read Inv-loop μ-loop
-mul-read c = omega (arith, at-loop c .before .loop-test .taken, at-loop c .before .before .before .before .pre)
+  below : turn .before .loop .i < mostReads
+  below = omega (arith, turn .loop-test .taken, turn .before .before .before .pre .0)
 
-element-set-from-read : tie.Need-element-set-from-read Inv-loop μ-loop
-element-set-from-read c = omega (arith, at-loop c .before .loop-test .taken, at-loop c .before .before .before .before .pre)
+  stepped : let l = turn .before .loop in
+      let a = turn .before .before .before .args in
+      let so-far = withReads (ofCounts (a .r) (a .n)) (l .reads) in
+      readAt (now (a .s)) (l .next) so-far (l .i) ≡ reached (c .read-at .result .progress) (withRead so-far (l .i) (c .read-at .result .read))
+  stepped =
+      let l = turn .before .loop in
+      let a = turn .before .before .before .args in
+      let k = l .inv .1 in
+      read-stepped (now (a .s)) (l .next) (withReads (ofCounts (a .r) (a .n)) (l .reads)) (l .names) _ (l .pasts) (l .i) (c .read-at .result)
+      (k .named) (k .past) refl (omega (arith, below)) (c .read-at .ensures)
 
-add-next : tie.Need-add-next Inv-loop μ-loop
-add-next c = omega (arith, whole (c .before .before .before .before .before), at-loop c .before .before .before .before .good)
+returns : tie.Need-returns Inv-loop μ-loop
+returns c =
+    let h = c .before .before in
+    let t = turn h in
+    let l = t .before .loop in
+    let s = now (t .before .before .before .args .s) in (
+      row-stays (readAt s) (readsFrom s) (read-row s) _ _ (l .i) (l .next) _ (l .inv .2) (t .loop-test .taken) (h .read-at .result .progress) _ (stepped h) _ _ _ (c .enum-told .given .1),
+      l .inv .1 .named,
+    )
 
-add-next-2 : tie.Need-add-next-2 Inv-loop μ-loop
-add-next-2 c = omega (arith, whole (c .before .before .before .before .before), at-loop c .before .before .before .before .good)
+enum-known-progress : tie.Need-enum-known-progress Inv-loop μ-loop
+enum-known-progress c = search needs
+
+mul-reads : tie.Need-mul-reads Inv-loop μ-loop
+mul-reads c = omega (arith, below (c .before .before .before .before .before))
+
+array-set-from-reads : tie.Need-array-set-from-reads Inv-loop μ-loop
+array-set-from-reads c = below (c .before .before .before .before .before)
+
+mul-name : tie.Need-mul-name Inv-loop μ-loop
+mul-name c = omega (arith, below (c .before .before .before .before .before))
+
+element-set-from-name : tie.Need-element-set-from-name Inv-loop μ-loop
+element-set-from-name c = below (c .before .before .before .before .before)
+
+is-sensor-requires : tie.Need-is-sensor-requires Inv-loop μ-loop
+is-sensor-requires c κs = search needs
+
+array-write-pasts : tie.Need-array-write-pasts Inv-loop μ-loop
+array-write-pasts c = below (c .before .before .before .before .before .before)
 
 add-i : tie.Need-add-i Inv-loop μ-loop
-add-i c = omega (arith, at-loop c .before .loop-test .taken, at-loop c .before .before .before .before .pre)
+add-i c = omega (arith, below (c .before .before .before .before .before .before))
 
 loop-less : tie.Need-loop-less Inv-loop μ-loop
-loop-less c = omega (arith, at-loop c .before .loop-test .taken)
+loop-less c = let t = turn (c .before .before .before .before .before .before) in omega (arith, t .loop-test .taken)
 
 loop-again : tie.Need-loop-again Inv-loop μ-loop
 loop-again c =
-    let f = c .before .before .before in
-    let k = f .before .before in
-    let h = k .before .before .before in
-    let l = h .before .before .loop in
-    let s = now (h .before .before .before .before .args .s) in (
-      omega (arith, h .before .loop-test .taken),
-      row-goes (readAt s) (readsFrom s) (read-row s) _ _ (l .i) (l .next) (l .so-far) (l .inv .1) (h .before .loop-test .taken)
-          (goingOn (h .front-at .result .at + 3 + k .before .header2 .given .0 .1 .0) (withRead (l .so-far) (l .i) (f .read-field .result .read)))
-          (sym (read-done s (h .front-at .result .at) (l .so-far) (l .i) _ _ (f .read-field .result) _ (here k) (f .read-field .ensures) (c .before .enum-told .given .1)) ∙ there h) _ refl,
+    let g = c .before .before .before .before in
+    let h = g .before .before in
+    let t = turn h in
+    let l = t .before .loop in
+    let s = now (t .before .before .before .args .s) in (
+      omega (arith, t .loop-test .taken),
+      reads-more (l .names) (l .pasts) (l .reads) (l .i) (h .read-at .result .read) (c .is-sensor .result) (below h) (c .is-sensor .ensures) (l .inv .1),
+      row-goes (readAt s) (readsFrom s) (read-row s) _ _ (l .i) (l .next) _ (l .inv .2) (t .loop-test .taken) (h .read-at .result .progress) _ (stepped h) _ (g .progress .given .1),
     )
 
-going-on-requires : tie.Need-going-on-requires Inv-loop μ-loop
-going-on-requires c κs = search needs
-
-returns-3 : tie.Need-returns-3 Inv-loop μ-loop
-returns-3 c =
-    let l = c .before .before .loop in
-    let s = now (c .before .before .before .before .args .s) in
-    c .going-on .ensures ∙ row-end (readAt s) (readsFrom s) (read-row s) _ _ (l .i) (l .next) (l .so-far) (l .inv .1) (c .before .loop-test .left)
+returns-2 : tie.Need-returns-2 Inv-loop μ-loop
+returns-2 c =
+    let l = c .before .loop in
+    let s = now (c .before .before .before .args .s) in
+    (row-end (readAt s) (readsFrom s) (read-row s) _ _ (l .i) (l .next) _ (l .inv .2) (c .loop-test .left), l .inv .1 .named)
 
 pub reads-at-spec : {M : Type 1} → statement M
 reads-at-spec =
@@ -162,28 +112,17 @@ reads-at-spec =
     Inv-loop
     μ-loop
     loop-holds
-    front-at-requires
-    enum-known-header
-    refused-requires
-    returns
-    enum-known-header-2
-    add-read-field
-    add-read-field-2
-    add-read-field-3
-    sub-read-field
-    part-read-field-start
-    part-read-field-end
-    read-field-requires
-    enum-known-point
-    refused-requires-2
-    returns-2
+    read-at-requires
     enum-told
-    mul-read
-    element-set-from-read
-    add-next
-    add-next-2
+    returns
+    enum-known-progress
+    mul-reads
+    array-set-from-reads
+    mul-name
+    element-set-from-name
+    is-sensor-requires
+    array-write-pasts
     add-i
     loop-less
     loop-again
-    going-on-requires
-    returns-3)
+    returns-2)

@@ -1,10 +1,12 @@
--- `loader::point::read_field` meets its contract: the kind and the tests of the name say which case of `readField` holds. Assumes nothing.
+-- `loader::point::read_field` meets its contract: the kind says which case of `readField` holds. Assumes nothing.
 use mathlib.Core.Path.{sym, _∙_, ap}
-use lib.Dec.{lit≤}
+use Prim.Native.Nat.{min}
 use denote.Ref.{now}
-use borrow.Author.Tests.{not-true, not-false}
-use Rattle.shape.specs.Spelling.{spelling}
-use Rattle.loader.proofs.LoadLaws.{used-of, rest-of, read-bad, read-unnamed, read-used, read-good}
+use Rattle.scan.specs.Set.{mostReads}
+use Rattle.shape.specs.way.Names.{nameUsed}
+use Rattle.loader.specs.Load.{nameField}
+use Rattle.loader.specs.way.Load.{notPast}
+use Rattle.loader.proofs.LoadLaws.{rest-of, read-bad, read-known}
 use borrow.Author.Needs.{needs}
 use Rattle.loader.proofs.point.read_field.Statement.{statement}
 use Rattle.loader.proofs.point.read_field.Tie as tie
@@ -21,76 +23,36 @@ kind-of-requires c κs = search needs
 enum-told : tie.Need-enum-told
 enum-told c = search needs
 
-denied-read-requires : tie.Need-denied-read-requires
-denied-read-requires c κs = search needs
+enum-known-known : tie.Need-enum-known-known
+enum-known-known c = search needs
 
-enum-known-told : tie.Need-enum-known-told
-enum-known-told c = search needs
+sub-name-of : tie.Need-sub-name-of
+sub-name-of c = search needs
 
-sub-spell : tie.Need-sub-spell
-sub-spell c = search needs
+part-name-of-start : tie.Need-part-name-of-start
+part-name-of-start c = search needs
 
-part-spell-start : tie.Need-part-spell-start
-part-spell-start c = search needs
+part-name-of-end : tie.Need-part-name-of-end
+part-name-of-end c = search needs
 
-part-spell-end : tie.Need-part-spell-end
-part-spell-end c = search needs
-
-spell-requires : tie.Need-spell-requires
-spell-requires c κs = search needs
-
-denied-read-requires-2 : tie.Need-denied-read-requires-2
-denied-read-requires-2 c κs = search needs
+name-of-requires : tie.Need-name-of-requires
+name-of-requires c κs = search needs
 
 returns : tie.Need-returns
 returns c =
-    let n = c .before .before .before in
-    let k = n .before .before .before in
-    let s = k .before .before .before .before .before .before in
-    let a = s .args in
-    let got = n .spell .result in
-    c .denied-read2 .ensures
-    ∙ sym
-    (read-unnamed (now (a .body)) (a .set) (a .i) (k .told .given .0 .0) (sym (k .before .before .kind-of .ensures) ∙ k .told .given .1) got
-    (n .spell .ensures ∙ ap spelling (rest-of 2 (now (a .body)))) (not-true (got .good) (c .before .if1 .taken)))
-
-is-used-requires : tie.Need-is-used-requires
-is-used-requires c κs = search needs
-
-denied-read-requires-3 : tie.Need-denied-read-requires-3
-denied-read-requires-3 c κs = search needs
+    let k = c .before .before in
+    let a = k .before .before .before .before .args in
+    sym (read-bad (a .n) (notPast (now (a .pasts))) (nameUsed (now (a .reads)) (min (a .i) mostReads) (now (a .outputs)) 0) (a .i) (now (a .body)) (sym (k .kind-of .ensures) ∙ c .enum-told .given .1))
 
 returns-2 : tie.Need-returns-2
 returns-2 c =
-    let u = c .before .before in
-    let n = u .before .before .before .before in
-    let k = n .before .before .before in
-    let s = k .before .before .before .before .before .before in
-    let a = s .args in
-    let got = n .spell .result in
-    c .denied-read3 .ensures
-    ∙ sym
-    (read-used (now (a .body)) (a .set) (a .i) (k .told .given .0 .0) (sym (k .before .before .kind-of .ensures) ∙ k .told .given .1) got
-    (n .spell .ensures ∙ ap spelling (rest-of 2 (now (a .body)))) (not-false (got .good) (u .before .before .if1 .left))
-    (used-of (a .set) (a .i) 0 (got .name) _ (s .pre .2) (lit≤ tt) (u .is-used .ensures) ∙ c .before .if2 .taken))
-
-returns-3 : tie.Need-returns-3
-returns-3 c =
-    let a = c .before .before .before .before .before .before .before .args in
-    c .denied-read .ensures ∙ sym (read-bad (now (a .body)) (a .set) (a .i) (sym (c .before .before .before .kind-of .ensures) ∙ c .before .enum-told .given .1))
-
-returns-4 : tie.Need-returns-4
-returns-4 c =
-    let u = c .before in
-    let n = u .before .before .before .before in
-    let k = n .before .before .before in
-    let s = k .before .before .before .before .before .before in
-    let a = s .args in
-    let got = n .spell .result in
-    sym
-    (read-good (now (a .body)) (a .set) (a .i) (k .told .given .0 .0) (sym (k .before .before .kind-of .ensures) ∙ k .told .given .1) got
-    (n .spell .ensures ∙ ap spelling (rest-of 2 (now (a .body)))) (not-false (got .good) (u .before .before .if1 .left))
-    (used-of (a .set) (a .i) 0 (got .name) _ (s .pre .2) (lit≤ tt) (u .is-used .ensures) ∙ c .if2 .left))
+    let f = c .before in
+    let w = f .before .before .before in
+    let k = w .before .before in
+    let a = k .before .before .before .before .args in
+    let used = nameUsed (now (a .reads)) (min (a .i) mostReads) (now (a .outputs)) 0 in
+    sym (read-known (a .n) (notPast (now (a .pasts))) used (a .i) (now (a .body)) (w .known .given .0 .0) (f .name-of .result)
+    (sym (k .kind-of .ensures) ∙ w .known .given .1) (f .name-of .ensures ∙ ap (nameField used) (rest-of 2 (now (a .body)))))
 
 pub read-field-spec : {M : Type 1} → statement M
 read-field-spec =
@@ -100,16 +62,10 @@ read-field-spec =
     shared-slice-read-kind-of-2
     kind-of-requires
     enum-told
-    denied-read-requires
-    enum-known-told
-    sub-spell
-    part-spell-start
-    part-spell-end
-    spell-requires
-    denied-read-requires-2
+    enum-known-known
+    sub-name-of
+    part-name-of-start
+    part-name-of-end
+    name-of-requires
     returns
-    is-used-requires
-    denied-read-requires-3
-    returns-2
-    returns-3
-    returns-4)
+    returns-2)
