@@ -15,7 +15,8 @@ use Rattle.words.specs.Loop.{count}
 use Rattle.words.proofs.LoopLaws.{below-suc}
 use Rattle.words.proofs.BitLaws.{half-lt, bit-lowest, bit-half, no-bits, by-digit, digit-lt, odd-one}
 
-ones-in : (n w : ℕ) → w < 2 ^ n → ones w ≡ onesIn n w
+-- what `count_ones` of a number of n bits gives is the count over n digits
+pub ones-in : (n w : ℕ) → w < 2 ^ n → ones w ≡ onesIn n w
 unfolding onesIn ones
 ones-in zero w h = ap ones (lt-one h)
 ones-in (suc n) w h = ones-step w ∙ ap (λ (x : ℕ). w % 2 + x) (ones-in n (w / 2) (half-lt n w h))

@@ -6,15 +6,14 @@ use mathlib.Core.List.{List, [], _∷_, _++_, append-nil}
 use Prim.Native.Nat.{ℕ, zero, suc, _+_, _-_, _*_, _/_, _%_, _^_, _≤_, _<_}
 use native.Mathlib.Nat.{zero-add, lt-of-lt-of-le}
 use native.Mathlib.Omega.{arith}
-use lib.Arith.{lt-one}
 use lib.ListN.{length, getD, replicate, length-append}
 use lib.Pow.{pow-mono}
 use lib.Bits.{bitOr, or-lt}
-use lib.Count.{onesIn, ones, ones-step}
+use lib.Count.{ones}
 use Rattle.words.specs.Word.{bit}
 use Rattle.words.specs.Loop.{count}
-use Rattle.words.proofs.BitLaws.{bit-or, half-lt}
-use Rattle.words.proofs.PopcountLaws.{ones-count, count-le}
+use Rattle.words.proofs.BitLaws.{bit-or}
+use Rattle.words.proofs.PopcountLaws.{ones-in, ones-count, count-le}
 use Rattle.scan.specs.declared.set.Constraint.{Constraint}
 use Rattle.scan.specs.declared.set.Set.{Set}
 use Rattle.scan.specs.Set.{mostReads, mostOutputs, constraint, rank, outs}
@@ -116,11 +115,6 @@ joined-long f p h zero = refl
 joined-long f p h (suc n) =
     let e : length (joined n f) ≡ 2 * count n p = joined-long f p h n in
     omega (arith, length-append (joined n f) (f n), e, h n)
-
-ones-in : (n w : ℕ) → w < 2 ^ n → ones w ≡ onesIn n w
-unfolding onesIn ones
-ones-in zero w h = ap ones (lt-one h)
-ones-in (suc n) w h = ones-step w ∙ ap (λ (x : ℕ). w % 2 + x) (ones-in n (w / 2) (half-lt n w h))
 
 -- the count of ones of a word of n bits
 ones-below : (n w : ℕ) → w < 2 ^ n → ones w ≡ count n (λ k. bit k w)
