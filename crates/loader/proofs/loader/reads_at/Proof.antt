@@ -4,8 +4,9 @@ use mathlib.Core.Path.{_≡_, refl, sym, subst}
 use Prim.Native.Nat.{_-_, _≤_, _<_}
 use native.Mathlib.Nat.{sub-zero}
 use native.Mathlib.Omega.{arith}
+use lib.ListN.{replicate}
 use denote.Ref.{now}
-use Rattle.scan.specs.Set.{mostReads, zeroSet, withReads}
+use Rattle.scan.specs.Set.{mostReads, mostOutputs, zeroName, zeroSet, withReads}
 use Rattle.loader.specs.Load.{ofCounts, readAt, readsFrom, withRead}
 use Rattle.loader.specs.way.Load.{reached}
 use Rattle.loader.proofs.RunLaws.{read-row, row-end, row-stays, row-goes}
@@ -47,7 +48,7 @@ module _ (c : tie.After-read-at Inv-loop μ-loop) where
       let l = turn .before .loop in
       let a = turn .before .before .before .args in
       let k = l .inv .1 in
-      read-stepped (now (a .s)) (l .next) (withReads (ofCounts (a .r) (a .n)) (l .reads)) (l .names) _ (l .pasts) (l .i) (c .read-at .result)
+      read-stepped (now (a .s)) (l .next) (withReads (ofCounts (a .r) (a .n)) (l .reads)) (l .names) (replicate mostOutputs zeroName) (l .pasts) (l .i) (c .read-at .result)
       (k .named) (k .past) refl (omega (arith, below)) (c .read-at .ensures)
 
 returns : tie.Need-returns Inv-loop μ-loop
