@@ -1,5 +1,5 @@
 pub mod LoadLaws
-pub mod WayLaws
-pub mod RunLaws
+pub mod LoadWayLaws
+pub mod LoadTurns
 pub mod RefusedZero
 pub mod ColumnLaws

@@ -26,6 +26,8 @@ ghost use mathlib.Core.Path.{_≡_};
 ghost use mathlib.Core.List.{List};
 ghost use Prim.Native.Nat.{_+_, _≤_};
 ghost use lib.ListN.{length, replicate};
+ghost use Rattle.loader.specs.declared.loader.Loaded.{Loaded};
+ghost use Rattle.loader.specs.declared.loader.LoadAnswer.the-variants.{Loaded as WasLoaded};
 ghost use Rattle.scan.specs.declared.set.ReadPoint.{ReadPoint};
 ghost use Rattle.scan.specs.declared.set.OutputPoint.{OutputPoint};
 ghost use Rattle.scan.specs.Set.{mostReads, mostOutputs, mostConstraints, zeroName, zeroConstraint, withReads, withOutputs};
@@ -268,6 +270,14 @@ fn refused(number: u8, offset: usize) -> Loaded
     }
 }
 
+// What is answered of a file that holds the set.
+fn file_taken(set: Set) -> Loaded
+    ensures { λ l. ⌜ l ≡ record { answer = WasLoaded; set = set } ⌝ }
+{
+    let answer = LoadAnswer::Loaded;
+    Loaded { answer, set }
+}
+
 // What follows the outputs, and the set of them all.
 fn after_outputs(
     s: &[u8],
@@ -295,8 +305,7 @@ fn after_outputs(
                 outputs,
                 constraints,
             };
-            let answer = LoadAnswer::Loaded;
-            Loaded { answer, set }
+            file_taken(set)
         }
     }
 }

@@ -3,7 +3,7 @@ use mathlib.Core.Path.{_∙_, ap}
 use denote.Ref.{now}
 use Rattle.scan.specs.Set.{withReads}
 use Rattle.loader.specs.Load.{answered, ofCounts, afterReads}
-use Rattle.loader.proofs.RunLaws.{stays, goes}
+use Rattle.loader.proofs.LoadTurns.{stays, goes}
 use borrow.Author.Needs.{needs}
 use Rattle.loader.proofs.loader.after_counts.Statement.{statement}
 use Rattle.loader.proofs.loader.after_counts.Tie as tie

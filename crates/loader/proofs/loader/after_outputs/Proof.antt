@@ -18,6 +18,9 @@ refused-requires c κs = search needs
 enum-told : tie.Need-enum-told
 enum-told c = search needs
 
+file-taken-requires : tie.Need-file-taken-requires
+file-taken-requires c κs = search needs
+
 returns : tie.Need-returns
 returns c =
     let p = c .before .before in
@@ -25,17 +28,20 @@ returns c =
     let a = f .before .before .args in
     let l = f .constraints-at .result in
     c .refused .ensures
-    ∙ ap answered (sym (ap (λ x. reached x (wholeSet (a .r) (a .n) (l .m) (a .reads) (a .outputs) (l .constraints))) (p .p .given .1)) ∙ f .constraints-at .ensures (a .reads) (a .outputs))
+    ∙ ap answered (sym (ap (λ x. reached x (wholeSet (a .r) (a .n) (l .m) (a .reads) (a .outputs) (l .constraints))) (p .p .given .1))
+    ∙ f .constraints-at .ensures (a .reads) (a .outputs))
 
 returns-2 : tie.Need-returns-2
 returns-2 c =
-    let t = c .before in
+    let t = c .before .before in
     let f = t .before .before in
     let a = f .before .before .args in
     let l = f .constraints-at .result in
-    ap answered (sym (ap (λ x. reached x (wholeSet (a .r) (a .n) (l .m) (a .reads) (a .outputs) (l .constraints))) (t .enum-told .given .1)) ∙ f .constraints-at .ensures (a .reads) (a .outputs))
+    c .file-taken .ensures
+    ∙ ap answered (sym (ap (λ x. reached x (wholeSet (a .r) (a .n) (l .m) (a .reads) (a .outputs) (l .constraints))) (t .enum-told .given .1))
+    ∙ f .constraints-at .ensures (a .reads) (a .outputs))
 
 pub after-outputs-spec : {M : Type 1} → statement M
 after-outputs-spec =
     tie.close
-    (tie.spec constraints-at-requires enum-known-p refused-requires enum-told returns returns-2)
+    (tie.spec constraints-at-requires enum-known-p refused-requires enum-told file-taken-requires returns returns-2)

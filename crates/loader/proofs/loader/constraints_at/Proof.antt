@@ -14,7 +14,7 @@ use Rattle.header.specs.Header.{headerOf}
 use Rattle.loader.specs.Load.{withConstraint, constraintsFrom}
 use Rattle.loader.specs.way.Load.{reached, pointsSet, wholeSet}
 use Rattle.header.proofs.HeaderLaws.{field-within, constraint-length, front-place, front-header}
-use Rattle.loader.proofs.RunLaws.{constraints-stopped, constraints-end, constraints-by}
+use Rattle.loader.proofs.LoadTurns.{constraints-stopped, constraints-end, constraints-by}
 use borrow.Author.Needs.{needs}
 use Rattle.loader.proofs.loader.constraints_at.Statement.{statement}
 use Rattle.loader.proofs.loader.constraints_at.Tie as tie

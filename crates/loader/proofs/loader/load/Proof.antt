@@ -3,7 +3,7 @@ use mathlib.Core.Path.{sym, _∙_, ap}
 use denote.Ref.{now}
 use Rattle.loader.specs.Load.{answered, ofCounts, afterCounts, loadFrom, loadOf}
 use Rattle.loader.specs.way.Load.{reached}
-use Rattle.loader.proofs.RunLaws.{stays, goes, counts-range}
+use Rattle.loader.proofs.LoadTurns.{stays, goes, counts-range}
 use borrow.Author.Needs.{needs}
 use Rattle.loader.proofs.loader.load.Statement.{statement}
 use Rattle.loader.proofs.loader.load.Tie as tie

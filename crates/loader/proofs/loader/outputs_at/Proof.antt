@@ -11,8 +11,8 @@ use Rattle.scan.specs.Set.{mostOutputs, zeroSet, withReads}
 use Rattle.shape.specs.way.Names.{ReadNames}
 use Rattle.loader.specs.Load.{ofCounts, withOutput, outputAt, outputsFrom}
 use Rattle.loader.specs.way.Load.{pointsSet, reached}
-use Rattle.loader.proofs.RunLaws.{output-row, row-end, row-stays, row-goes}
-use Rattle.loader.proofs.WayLaws.{OutputsKnown, outputs-none, outputs-more, output-stepped}
+use Rattle.loader.proofs.LoadTurns.{output-row, row-end, row-stays, row-goes}
+use Rattle.loader.proofs.LoadWayLaws.{OutputsKnown, outputs-none, outputs-more, output-stepped}
 use borrow.Author.Needs.{needs}
 use Rattle.loader.proofs.loader.outputs_at.Statement.{statement}
 use Rattle.loader.proofs.loader.outputs_at.Tie as tie

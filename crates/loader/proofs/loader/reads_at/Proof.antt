@@ -9,8 +9,8 @@ use denote.Ref.{now}
 use Rattle.scan.specs.Set.{mostReads, mostOutputs, zeroName, zeroSet, withReads}
 use Rattle.loader.specs.Load.{ofCounts, readAt, readsFrom, withRead}
 use Rattle.loader.specs.way.Load.{reached}
-use Rattle.loader.proofs.RunLaws.{read-row, row-end, row-stays, row-goes}
-use Rattle.loader.proofs.WayLaws.{ReadsKnown, reads-none, reads-more, read-stepped}
+use Rattle.loader.proofs.LoadTurns.{read-row, row-end, row-stays, row-goes}
+use Rattle.loader.proofs.LoadWayLaws.{ReadsKnown, reads-none, reads-more, read-stepped}
 use borrow.Author.Needs.{needs}
 use Rattle.loader.proofs.loader.reads_at.Statement.{statement}
 use Rattle.loader.proofs.loader.reads_at.Tie as tie

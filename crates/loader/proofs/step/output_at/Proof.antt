@@ -13,7 +13,7 @@ use Rattle.loader.specs.declared.point.NameField.{NameField}
 use Rattle.loader.specs.Load.{nameField}
 use Rattle.loader.specs.way.Load.{refusedName, nameStep}
 use Rattle.header.proofs.HeaderLaws.{field-within, front-place, front-there, front-header}
-use Rattle.loader.proofs.WayLaws.{field-step}
+use Rattle.loader.proofs.LoadWayLaws.{field-step}
 use borrow.Author.Needs.{needs}
 use Rattle.loader.proofs.step.output_at.Statement.{statement}
 use Rattle.loader.proofs.step.output_at.Tie as tie

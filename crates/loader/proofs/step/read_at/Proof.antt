@@ -14,7 +14,7 @@ use Rattle.loader.specs.Load.{readField}
 use Rattle.loader.specs.way.Load.{notPast, refusedRead, readStep}
 use Rattle.header.proofs.HeaderLaws.{field-within, front-place, front-there, front-header, read-length}
 use Rattle.loader.proofs.LoadLaws.{body-long}
-use Rattle.loader.proofs.WayLaws.{field-step}
+use Rattle.loader.proofs.LoadWayLaws.{field-step}
 use borrow.Author.Needs.{needs}
 use Rattle.loader.proofs.step.read_at.Statement.{statement}
 use Rattle.loader.proofs.step.read_at.Tie as tie
