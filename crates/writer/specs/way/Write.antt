@@ -6,18 +6,20 @@ use mathlib.Core.Bool.{Bool, cond}
 use mathlib.Core.List.{List, [], _∷_, _++_}
 use lib.ListN.{length, getD, take, drop}
 use Rattle.words.specs.Word.{bit}
+use Rattle.scan.specs.declared.set.ReadPoint.{ReadPoint}
+use Rattle.scan.specs.declared.set.OutputPoint.{OutputPoint}
 use Rattle.scan.specs.declared.set.Set.{Set}
 use Rattle.writer.specs.Write.{readBody, outputBody, joined, literalBody, fieldsOf}
 
--- the fields of a set's read points
-abbrev pub readFields : Set → List ℕ
-readFields s = fieldsOf 0x02 readBody (take (s .r) (s .reads))
+-- the fields of the first r read points
+abbrev pub readFields : List ReadPoint → ℕ → List ℕ
+readFields reads r = fieldsOf 0x02 readBody (take r reads)
 
--- the fields of its outputs
-abbrev pub outputFields : Set → List ℕ
-outputFields s = fieldsOf 0x03 outputBody (take (s .n) (s .outputs))
+-- the fields of the first n outputs
+abbrev pub outputFields : List OutputPoint → ℕ → List ℕ
+outputFields outputs n = fieldsOf 0x03 outputBody (take n outputs)
 
--- the fields of its constraints
+-- the fields of a set's constraints
 abbrev pub constraintFields : Set → List ℕ
 constraintFields s = fieldsOf 0x04 literalBody (take (s .m) (s .constraints))
 

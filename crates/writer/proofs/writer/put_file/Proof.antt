@@ -20,7 +20,7 @@ fits c = omega (arith, c .pre .1)
 -- ---- the entry, from the place after each part
 
 abbrev start-1 : tie.After-put-counts → tie.Start
-start-1 c = c .before .before .before
+start-1 c = c .before .before .before .before .before
 
 abbrev start-2 : tie.After-put-reads → tie.Start
 start-2 c = start-1 (c .before .before .before .before)
@@ -45,14 +45,14 @@ done-2 c =
     let s = start-2 c in
     let a = s .args in
     let buf = now (a .buf) in
-    put-then buf 0 (countsPut (a .set)) (readFields (a .set)) _ _ _ _ (room-counts (a .set) (length buf) (fits s)) (done-1 (c .before .before .before .before)) (c .put-reads .ensures)
+    put-then buf 0 (countsPut (a .set)) (readFields (a .set .reads) (a .set .r)) _ _ _ _ (room-counts (a .set) (length buf) (fits s)) (done-1 (c .before .before .before .before)) (c .put-reads .ensures)
 
 done-3 : (c : tie.After-put-outputs) → Done (start-3 c) (outputsPut (start-3 c .args .set)) (c .put-outputs .last .0) (c .put-outputs .result)
 done-3 c =
     let s = start-3 c in
     let a = s .args in
     let buf = now (a .buf) in
-    put-then buf 0 (readsPut (a .set)) (outputFields (a .set)) _ _ _ _ (room-reads (a .set) (length buf) (fits s)) (done-2 (c .before .before .before .before)) (c .put-outputs .ensures)
+    put-then buf 0 (readsPut (a .set)) (outputFields (a .set .outputs) (a .set .n)) _ _ _ _ (room-reads (a .set) (length buf) (fits s)) (done-2 (c .before .before .before .before)) (c .put-outputs .ensures)
 
 done-4 : (c : tie.After-put-constraints) → Done (start-4 c) (constraintsPut (start-4 c .args .set)) (c .put-constraints .last .0) (c .put-constraints .result)
 done-4 c =
@@ -65,7 +65,7 @@ done-4 c =
 
 put-counts-requires : tie.Need-put-counts-requires
 put-counts-requires c κs =
-    let s = c .before .before in
+    let s = c .before .before .before .before in
     let a = s .args in
     let k = counts (a .set) (s .pre .0) in
     omega (arith, k .r-le, k .n-le, room-counts (a .set) (length (now (a .buf))) (fits s))
@@ -76,8 +76,8 @@ put-reads-requires c κs =
     let s = start-1 p in
     let a = s .args in
     let buf = now (a .buf) in (
-      s .pre .0,
-      next-room buf 0 (countsPut (a .set)) (readFields (a .set)) (p .put-counts .last .0) (p .put-counts .result) (done-1 p) (room-reads (a .set) (length buf) (fits s)),
+      counts (a .set) (s .pre .0) .r-le,
+      next-room buf 0 (countsPut (a .set)) (readFields (a .set .reads) (a .set .r)) (p .put-counts .last .0) (p .put-counts .result) (done-1 p) (room-reads (a .set) (length buf) (fits s)),
     )
 
 put-outputs-requires : tie.Need-put-outputs-requires
@@ -86,8 +86,8 @@ put-outputs-requires c κs =
     let s = start-2 p in
     let a = s .args in
     let buf = now (a .buf) in (
-      s .pre .0,
-      next-room buf 0 (readsPut (a .set)) (outputFields (a .set)) (p .put-reads .last .0) (p .put-reads .result) (done-2 p) (room-outputs (a .set) (length buf) (fits s)),
+      counts (a .set) (s .pre .0) .n-le,
+      next-room buf 0 (readsPut (a .set)) (outputFields (a .set .outputs) (a .set .n)) (p .put-reads .last .0) (p .put-reads .result) (done-2 p) (room-outputs (a .set) (length buf) (fits s)),
     )
 
 put-constraints-requires : tie.Need-put-constraints-requires
