@@ -3,7 +3,7 @@
 use mathlib.Core.Path.{_≡_, refl, sym, ap, ap₂, _∙_}
 use mathlib.Core.Bool.{Bool, true, false, cond, _||_}
 use mathlib.Core.List.{List, [], _∷_, _++_, append-nil}
-use Prim.Native.Nat.{ℕ, zero, suc, _+_, _-_, _*_, _/_, _%_, _^_, _≤_, _<_}
+use Prim.Native.Nat.{ℕ, zero, suc, _+_, _-_, _*_, _^_, _≤_, _<_}
 use native.Mathlib.Nat.{zero-add, lt-of-lt-of-le}
 use native.Mathlib.Omega.{arith}
 use lib.ListN.{length, getD, replicate, length-append}
@@ -20,7 +20,7 @@ use Rattle.scan.specs.Set.{mostReads, mostOutputs, constraint, rank, outs}
 use Rattle.scan.specs.Shape.{wellFormed}
 use Rattle.scan.proofs.ShapeLaws.{counts, masks, outs-lt}
 use Rattle.writer.specs.Write.{readLiteral, outputLiteral, joined, literalBody}
-use Rattle.writer.specs.way.Write.{signedBy, literalAt, literalsAt}
+use Rattle.writer.specs.way.Write.{FewPoints, signedBy, literalAt, literalsAt}
 
 -- ---- a literal, as the code puts it
 
@@ -91,8 +91,7 @@ literals-told c long =
     (joined-same _ (outputLiteral c) (output-told c) (length (c .ranks)) ∙ ap (λ (n : ℕ). joined n (outputLiteral c)) long)
 
 -- a constraint in use of a well-formed set has no bits beyond the most points
-pub masks-few : (s : Set) → wellFormed s ≡ true → (i : ℕ) → i < s .m
-    → let c = constraint s i in (bitOr (c .«read_plain») (c .«read_negated») < 2 ^ mostReads) × (outs c < 2 ^ mostOutputs)
+pub masks-few : (s : Set) → wellFormed s ≡ true → (i : ℕ) → i < s .m → FewPoints (constraint s i)
 masks-few s ok i h =
     let c = constraint s i in
     let k = counts s ok in

@@ -15,11 +15,12 @@ use Rattle.words.specs.Loop.{first}
 use Rattle.scan.specs.declared.set.Kind.{Kind}
 use Rattle.scan.specs.declared.set.Kind.the-variants.{Sensor, PastOutput, PastSensor}
 use Rattle.scan.specs.declared.set.ReadPoint.{ReadPoint}
+use Rattle.scan.specs.declared.set.OutputPoint.{OutputPoint}
+use Rattle.scan.specs.declared.set.Constraint.{Constraint}
 use Rattle.scan.specs.declared.set.Set.{Set}
 use Rattle.scan.specs.Set.{namePlaces, noRead, noOutput, noConstraint}
 use Rattle.scan.specs.Names.{zeroAt, nameLength, nameBytes}
 use Rattle.scan.specs.Shape.{wellFormed}
-use Rattle.scan.proofs.ShapeLaws.{counts, lengths}
 use Rattle.writer.specs.Write.{fieldOf, kindBytes, readBody, outputBody, joined, literalBody, fieldsOf, writeOf, writeAnswer, bufferAfter}
 use Rattle.writer.specs.way.Write.{readFields, outputFields, constraintFields, putAt, Put}
 use Rattle.writer.specs.declared.writer.Written.the-variants.{Wrote, BadSet, Short}
@@ -218,20 +219,19 @@ module _ {whole more : ℕ → List ℕ} {n : ℕ} (g : Grows whole more n) wher
     pub puts-all : (after : List ℕ) (next k : ℕ) → Puts whole n buf at after next k → n ≤ k → Put buf at (whole n) after next
     puts-all after next k i h = let e : k ≡ n = omega arith in subst (λ (j : ℕ). Put buf at (whole j) after next) e (i .1)
 
--- ---- the parts of a well-formed set
+-- ---- the parts of the file
 
-module _ (s : Set) (ok : wellFormed s ≡ true) where
-  pub reads-grow : Grows (λ k. fieldsOf 0x02 readBody (take k (s .reads))) (λ k. fieldOf 0x02 (readBody (getD (s .reads) k noRead))) (s .r)
-  reads-grow = fields-grow 0x02 readBody (s .reads) (s .r) noRead (omega (arith, counts s ok .r-le, lengths s ok .0))
+pub reads-grow : (reads : List ReadPoint) (r : ℕ) → r ≤ length reads → Grows (readFields reads) (λ k. fieldOf 0x02 (readBody (getD reads k noRead))) r
+reads-grow reads r few = fields-grow 0x02 readBody reads r noRead few
 
-  pub outputs-grow : Grows (λ k. fieldsOf 0x03 outputBody (take k (s .outputs))) (λ k. fieldOf 0x03 (outputBody (getD (s .outputs) k noOutput))) (s .n)
-  outputs-grow = fields-grow 0x03 outputBody (s .outputs) (s .n) noOutput (omega (arith, counts s ok .n-le, lengths s ok .1))
+pub outputs-grow : (outputs : List OutputPoint) (n : ℕ) → n ≤ length outputs → Grows (outputFields outputs) (λ k. fieldOf 0x03 (outputBody (getD outputs k noOutput))) n
+outputs-grow outputs n few = fields-grow 0x03 outputBody outputs n noOutput few
 
-  pub constraints-grow : Grows (λ k. fieldsOf 0x04 literalBody (take k (s .constraints))) (λ k. fieldOf 0x04 (literalBody (getD (s .constraints) k noConstraint))) (s .m)
-  constraints-grow = fields-grow 0x04 literalBody (s .constraints) (s .m) noConstraint (omega (arith, counts s ok .m-le, lengths s ok .2))
+pub constraints-grow : (constraints : List Constraint) (m : ℕ) → m ≤ length constraints → Grows (constraintFields constraints) (λ k. fieldOf 0x04 (literalBody (getD constraints k noConstraint))) m
+constraints-grow constraints m few = fields-grow 0x04 literalBody constraints m noConstraint few
 
 -- the file's length, part by part
-pub file-long : (s : Set) → length (writeOf s) ≡ 8 + length (readFields s) + length (outputFields s) + length (constraintFields s)
+pub file-long : (s : Set) → length (writeOf s) ≡ 8 + length (readFields (s .reads) (s .r)) + length (outputFields (s .outputs) (s .n)) + length (constraintFields (s .constraints) (s .m))
 unfolding writeOf
 file-long s = simp length-append (omega arith)
 
@@ -242,13 +242,13 @@ abbrev pub countsPut : Set → List ℕ
 countsPut s = fieldOf 0x01 (s .r ∷ s .n ∷ [])
 
 abbrev pub readsPut : Set → List ℕ
-readsPut s = countsPut s ++ readFields s
+readsPut s = countsPut s ++ readFields (s .reads) (s .r)
 
 abbrev pub outputsPut : Set → List ℕ
-outputsPut s = readsPut s ++ outputFields s
+outputsPut s = readsPut s ++ outputFields (s .outputs) (s .n)
 
 abbrev pub constraintsPut : Set → List ℕ
-constraintsPut s = outputsPut s ++ constraintFields s
+constraintsPut s = outputsPut s ++ constraintFields (s .constraints) (s .m)
 
 pub file-ends : (s : Set) → constraintsPut s ++ fieldOf 0x05 [] ≡ writeOf s
 unfolding writeOf
@@ -267,13 +267,13 @@ module _ (s : Set) (room : ℕ) (fits : 0 + length (writeOf s) ≤ room) where
   room-constraints = front-room (constraintsPut s) (fieldOf 0x05 []) room room-end
 
   pub room-outputs : 0 + length (outputsPut s) ≤ room
-  room-outputs = front-room (outputsPut s) (constraintFields s) room room-constraints
+  room-outputs = front-room (outputsPut s) (constraintFields (s .constraints) (s .m)) room room-constraints
 
   pub room-reads : 0 + length (readsPut s) ≤ room
-  room-reads = front-room (readsPut s) (outputFields s) room room-outputs
+  room-reads = front-room (readsPut s) (outputFields (s .outputs) (s .n)) room room-outputs
 
   pub room-counts : 0 + length (countsPut s) ≤ room
-  room-counts = front-room (countsPut s) (readFields s) room room-reads
+  room-counts = front-room (countsPut s) (readFields (s .reads) (s .r)) room room-reads
 
 -- ---- the answer
 

@@ -13,11 +13,10 @@ ghost use mathlib.Core.Path.{_≡_};
 ghost use mathlib.Core.List.{[], _∷_};
 ghost use Prim.Native.Nat.{_+_, _*_, _/_, _%_, _^_, _≤_, _<_};
 ghost use lib.ListN.{length};
-ghost use lib.Bits.{bitOr};
-ghost use Rattle.scan.specs.Set.{mostReads, mostOutputs, namePlaces, outs};
+ghost use Rattle.scan.specs.Set.{mostReads, mostOutputs, namePlaces};
 ghost use Rattle.scan.specs.Names.{nameBytes};
 ghost use Rattle.writer.specs.Write.{fieldOf, kindBytes, readBody, outputBody, literalBody};
-ghost use Rattle.writer.specs.way.Write.{signedBy, literalsAt, Put};
+ghost use Rattle.writer.specs.way.Write.{FewPoints, signedBy, literalsAt, Put};
 
 // How many bytes the name has: those before the first zero.
 pub fn name_length(name: [u8; NAME_PLACES]) -> usize
@@ -36,7 +35,7 @@ pub fn name_length(name: [u8; NAME_PLACES]) -> usize
 
 // The length of a constraint's body: two bytes for each literal.
 pub fn literals_length(c: Constraint) -> usize
-    requires { ⌜ (bitOr (c .«read_plain») (c .«read_negated») < 2 ^ mostReads) × (outs c < 2 ^ mostOutputs) ⌝ }
+    requires { ⌜ FewPoints c ⌝ }
     ensures { λ r. ⌜ (r ≡ length (literalBody c)) × (r ≤ 2 * (mostReads + mostOutputs)) ⌝ }
 {
     let reads = u32::count_ones(c.read_plain | c.read_negated);
@@ -148,7 +147,7 @@ fn put_literals(buf: &mut [u8], at: usize, base: u8, plain: u32, named: u32, ran
 
 // The field of a constraint.
 pub fn put_constraint(buf: &mut [u8], at: usize, c: Constraint) -> usize
-    requires { ⌜ (bitOr (c .«read_plain») (c .«read_negated») < 2 ^ mostReads) × (outs c < 2 ^ mostOutputs) × (at + length (fieldOf 0x04 (literalBody c)) ≤ length (now buf)) ⌝ }
+    requires { ⌜ FewPoints c × (at + length (fieldOf 0x04 (literalBody c)) ≤ length (now buf)) ⌝ }
     ensures { λ x. ⌜ Put (now (buf .entry)) at (fieldOf 0x04 (literalBody c)) (now (buf .exit)) x ⌝ }
 {
     let unranked = [0u8; MOST_READS];

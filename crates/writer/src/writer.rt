@@ -7,16 +7,22 @@ use super::field::put_header;
 use super::field::put_output;
 use super::field::put_read;
 use header::TAG_END;
+use scan::Constraint;
+use scan::MOST_CONSTRAINTS;
+use scan::MOST_OUTPUTS;
+use scan::MOST_READS;
+use scan::OutputPoint;
+use scan::ReadPoint;
 use scan::Set;
 use shape::well_formed;
 ghost use mathlib.Core.Path.{_≡_};
 ghost use mathlib.Core.Bool.{true};
-ghost use Prim.Native.Nat.{_+_, _*_, _≤_};
-ghost use lib.ListN.{length};
-ghost use Rattle.scan.specs.Set.{mostReads, mostOutputs, mostConstraints, namePlaces};
+ghost use Prim.Native.Nat.{ℕ, _+_, _*_, _≤_, _<_};
+ghost use lib.ListN.{length, getD};
+ghost use Rattle.scan.specs.Set.{mostReads, mostOutputs, mostConstraints, namePlaces, noConstraint};
 ghost use Rattle.scan.specs.Shape.{wellFormed};
 ghost use Rattle.writer.specs.Write.{writeOf, writeAnswer, bufferAfter};
-ghost use Rattle.writer.specs.way.Write.{readFields, outputFields, constraintFields, putAt, Put};
+ghost use Rattle.writer.specs.way.Write.{readFields, outputFields, FewPoints, constraintFields, putAt, Put};
 
 // The length of the file; or that the set is not well formed; or the length needed, where the buffer is shorter.
 pub enum Written {
@@ -46,18 +52,23 @@ fn file_length(set: Set) -> usize
     requires { ⌜ wellFormed set ≡ true ⌝ }
     ensures { λ r. ⌜ r ≡ length (writeOf set) ⌝ }
 {
-    8 + reads_length(set) + outputs_length(set) + constraints_length(set)
+    let reads = set.reads;
+    let outputs = set.outputs;
+    let constraints = set.constraints;
+    8
+        + reads_length(reads, set.r)
+        + outputs_length(outputs, set.n)
+        + constraints_length(constraints, set.m)
 }
 
-fn reads_length(set: Set) -> usize
-    requires { ⌜ wellFormed set ≡ true ⌝ }
-    ensures { λ x. ⌜ (x ≡ length (readFields set)) × (x ≤ mostReads * (5 + namePlaces)) ⌝ }
+fn reads_length(reads: [ReadPoint; MOST_READS], r: usize) -> usize
+    requires { ⌜ r ≤ mostReads ⌝ }
+    ensures { λ x. ⌜ (x ≡ length (readFields reads r)) × (x ≤ mostReads * (5 + namePlaces)) ⌝ }
 {
-    let r = set.r;
     let mut len: usize = 0;
     let mut k: usize = 0;
     while k < r {
-        let p = set.reads[k];
+        let p = reads[k];
         let name = p.name;
         len = len + 5 + name_length(name);
         k = k + 1;
@@ -65,15 +76,14 @@ fn reads_length(set: Set) -> usize
     len
 }
 
-fn outputs_length(set: Set) -> usize
-    requires { ⌜ wellFormed set ≡ true ⌝ }
-    ensures { λ x. ⌜ (x ≡ length (outputFields set)) × (x ≤ mostOutputs * (3 + namePlaces)) ⌝ }
+fn outputs_length(outputs: [OutputPoint; MOST_OUTPUTS], n: usize) -> usize
+    requires { ⌜ n ≤ mostOutputs ⌝ }
+    ensures { λ x. ⌜ (x ≡ length (outputFields outputs n)) × (x ≤ mostOutputs * (3 + namePlaces)) ⌝ }
 {
-    let n = set.n;
     let mut len: usize = 0;
     let mut j: usize = 0;
     while j < n {
-        let p = set.outputs[j];
+        let p = outputs[j];
         let name = p.name;
         len = len + 3 + name_length(name);
         j = j + 1;
@@ -81,15 +91,14 @@ fn outputs_length(set: Set) -> usize
     len
 }
 
-fn constraints_length(set: Set) -> usize
-    requires { ⌜ wellFormed set ≡ true ⌝ }
-    ensures { λ x. ⌜ (x ≡ length (constraintFields set)) × (x ≤ mostConstraints * (3 + 2 * (mostReads + mostOutputs))) ⌝ }
+fn constraints_length(constraints: [Constraint; MOST_CONSTRAINTS], m: usize) -> usize
+    requires { ⌜ (m ≤ mostConstraints) × ((i : ℕ) → i < m → FewPoints (getD constraints i noConstraint)) ⌝ }
+    ensures { λ x. ⌜ (x ≡ length (constraintFields constraints m)) × (x ≤ mostConstraints * (3 + 2 * (mostReads + mostOutputs))) ⌝ }
 {
-    let m = set.m;
     let mut len: usize = 0;
     let mut i: usize = 0;
     while i < m {
-        let c = set.constraints[i];
+        let c = constraints[i];
         len = len + 3 + literals_length(c);
         i = i + 1;
     }
@@ -97,15 +106,14 @@ fn constraints_length(set: Set) -> usize
 }
 
 // The fields of the read points, from `at` on; the place behind them.
-fn put_reads(buf: &mut [u8], at: usize, set: Set) -> usize
-    requires { ⌜ (wellFormed set ≡ true) × (at + length (readFields set) ≤ length (now buf)) ⌝ }
-    ensures { λ x. ⌜ Put (now (buf .entry)) at (readFields set) (now (buf .exit)) x ⌝ }
+fn put_reads(buf: &mut [u8], at: usize, reads: [ReadPoint; MOST_READS], r: usize) -> usize
+    requires { ⌜ (r ≤ mostReads) × (at + length (readFields reads r) ≤ length (now buf)) ⌝ }
+    ensures { λ x. ⌜ Put (now (buf .entry)) at (readFields reads r) (now (buf .exit)) x ⌝ }
 {
-    let r = set.r;
     let mut next = at;
     let mut k: usize = 0;
     while k < r {
-        let p = set.reads[k];
+        let p = reads[k];
         next = put_read(&mut *buf, next, p);
         k = k + 1;
     }
@@ -113,15 +121,14 @@ fn put_reads(buf: &mut [u8], at: usize, set: Set) -> usize
 }
 
 // The fields of the outputs.
-fn put_outputs(buf: &mut [u8], at: usize, set: Set) -> usize
-    requires { ⌜ (wellFormed set ≡ true) × (at + length (outputFields set) ≤ length (now buf)) ⌝ }
-    ensures { λ x. ⌜ Put (now (buf .entry)) at (outputFields set) (now (buf .exit)) x ⌝ }
+fn put_outputs(buf: &mut [u8], at: usize, outputs: [OutputPoint; MOST_OUTPUTS], n: usize) -> usize
+    requires { ⌜ (n ≤ mostOutputs) × (at + length (outputFields outputs n) ≤ length (now buf)) ⌝ }
+    ensures { λ x. ⌜ Put (now (buf .entry)) at (outputFields outputs n) (now (buf .exit)) x ⌝ }
 {
-    let n = set.n;
     let mut next = at;
     let mut j: usize = 0;
     while j < n {
-        let p = set.outputs[j];
+        let p = outputs[j];
         next = put_output(&mut *buf, next, p);
         j = j + 1;
     }
@@ -129,15 +136,19 @@ fn put_outputs(buf: &mut [u8], at: usize, set: Set) -> usize
 }
 
 // The fields of the constraints.
-fn put_constraints(buf: &mut [u8], at: usize, set: Set) -> usize
-    requires { ⌜ (wellFormed set ≡ true) × (at + length (constraintFields set) ≤ length (now buf)) ⌝ }
-    ensures { λ x. ⌜ Put (now (buf .entry)) at (constraintFields set) (now (buf .exit)) x ⌝ }
+fn put_constraints(
+    buf: &mut [u8],
+    at: usize,
+    constraints: [Constraint; MOST_CONSTRAINTS],
+    m: usize,
+) -> usize
+    requires { ⌜ (m ≤ mostConstraints) × ((i : ℕ) → i < m → FewPoints (getD constraints i noConstraint)) × (at + length (constraintFields constraints m) ≤ length (now buf)) ⌝ }
+    ensures { λ x. ⌜ Put (now (buf .entry)) at (constraintFields constraints m) (now (buf .exit)) x ⌝ }
 {
-    let m = set.m;
     let mut next = at;
     let mut i: usize = 0;
     while i < m {
-        let c = set.constraints[i];
+        let c = constraints[i];
         next = put_constraint(&mut *buf, next, c);
         i = i + 1;
     }
@@ -149,9 +160,12 @@ fn put_file(buf: &mut [u8], set: Set)
     requires { ⌜ (wellFormed set ≡ true) × (length (writeOf set) ≤ length (now buf)) ⌝ }
     ensures { λ _. ⌜ now (buf .exit) ≡ putAt (now (buf .entry)) 0 (writeOf set) ⌝ }
 {
-    let reads = put_counts(&mut *buf, 0, set.r, set.n);
-    let outputs = put_reads(&mut *buf, reads, set);
-    let constraints = put_outputs(&mut *buf, outputs, set);
-    let end = put_constraints(&mut *buf, constraints, set);
+    let reads = set.reads;
+    let outputs = set.outputs;
+    let constraints = set.constraints;
+    let reads_at = put_counts(&mut *buf, 0, set.r, set.n);
+    let outputs_at = put_reads(&mut *buf, reads_at, reads, set.r);
+    let constraints_at = put_outputs(&mut *buf, outputs_at, outputs, set.n);
+    let end = put_constraints(&mut *buf, constraints_at, constraints, set.m);
     put_header(&mut *buf, end, TAG_END, 0);
 }

@@ -1,25 +1,33 @@
 -- The code's way to a file: its parts, and a buffer with bytes put into it.
 -- Assumes nothing.
-use Prim.Native.Nat.{ℕ, _+_}
+use Prim.Native.Nat.{ℕ, _+_, _^_, _<_}
 use mathlib.Core.Path.{_≡_}
 use mathlib.Core.Bool.{Bool, cond}
 use mathlib.Core.List.{List, [], _∷_, _++_}
 use lib.ListN.{length, getD, take, drop}
+use lib.Bits.{bitOr}
 use Rattle.words.specs.Word.{bit}
-use Rattle.scan.specs.declared.set.Set.{Set}
+use Rattle.scan.specs.declared.set.ReadPoint.{ReadPoint}
+use Rattle.scan.specs.declared.set.OutputPoint.{OutputPoint}
+use Rattle.scan.specs.declared.set.Constraint.{Constraint}
+use Rattle.scan.specs.Set.{mostReads, mostOutputs, outs}
 use Rattle.writer.specs.Write.{readBody, outputBody, joined, literalBody, fieldsOf}
 
--- the fields of a set's read points
-abbrev pub readFields : Set → List ℕ
-readFields s = fieldsOf 0x02 readBody (take (s .r) (s .reads))
+-- the fields of the first r read points
+abbrev pub readFields : List ReadPoint → ℕ → List ℕ
+readFields reads r = fieldsOf 0x02 readBody (take r reads)
 
--- the fields of its outputs
-abbrev pub outputFields : Set → List ℕ
-outputFields s = fieldsOf 0x03 outputBody (take (s .n) (s .outputs))
+-- the fields of the first n outputs
+abbrev pub outputFields : List OutputPoint → ℕ → List ℕ
+outputFields outputs n = fieldsOf 0x03 outputBody (take n outputs)
 
--- the fields of its constraints
-abbrev pub constraintFields : Set → List ℕ
-constraintFields s = fieldsOf 0x04 literalBody (take (s .m) (s .constraints))
+-- the fields of the first m constraints
+abbrev pub constraintFields : List Constraint → ℕ → List ℕ
+constraintFields constraints m = fieldsOf 0x04 literalBody (take m constraints)
+
+-- a constraint has no bits beyond the most points
+abbrev pub FewPoints : Constraint → Type 0
+FewPoints c = (bitOr (c .«read_plain») (c .«read_negated») < 2 ^ mostReads) × (outs c < 2 ^ mostOutputs)
 
 -- a point's number in a literal, with the top bit set where the point is negated
 abbrev pub signedBy : Bool → ℕ → ℕ

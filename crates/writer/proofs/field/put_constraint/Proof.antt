@@ -39,7 +39,7 @@ room c =
     let s = start c in
     let a = s .args in
     subst (λ (l : List ℕ). c .put-header .result + length l ≤ length (c .put-header .last .0)) (sym (told s))
-    (body-room (now (a .buf)) (a .at) 0x04 (c .before .literals-length .result) (literalBody (a .c)) _ _ (c .put-header .ensures) (s .pre .2))
+    (body-room (now (a .buf)) (a .at) 0x04 (c .before .literals-length .result) (literalBody (a .c)) _ _ (c .put-header .ensures) (s .pre .1))
 
 read-room : (c : tie.After-put-header) → c .put-header .result + length (readPart (start c .args .c)) ≤ length (c .put-header .last .0)
 read-room c = let k = start c .args .c in omega (arith, room c, length-append (readPart k) (outputPart k))
@@ -56,7 +56,7 @@ slice-aggregate-put-literals c = search needs
 put-literals-requires : tie.Need-put-literals-requires
 put-literals-requires c κs =
     let h = c .before .before .before .before in
-    (omega arith, omega arith, start h .pre .0, read-room h)
+    (omega arith, omega arith, start h .pre .0 .0, read-room h)
 
 cast-put-literals : tie.Need-cast-put-literals
 cast-put-literals c = search needs
@@ -75,7 +75,7 @@ put-literals-requires-2 c κs =
     let k = s .args .c in (
       omega arith,
       omega (arith, long s),
-      subst (λ (n : ℕ). outs k < 2 ^ n) (sym (long s)) (s .pre .1),
+      subst (λ (n : ℕ). outs k < 2 ^ n) (sym (long s)) (s .pre .0 .1),
       next-room (h .put-header .last .0) (h .put-header .result) (readPart k) (outputPart k) _ _ (p .put-literals .ensures) (room h),
     )
 
@@ -92,7 +92,7 @@ returns c =
     let mid = h .put-header .last .0 in
     let next = h .put-header .result in
     let len = h .before .literals-length in
-    field-put (now (a .buf)) (a .at) 0x04 (len .result) (literalBody (a .c)) mid (q .put-literals2 .last .0) next (q .put-literals2 .result) (len .ensures .0) (s .pre .2) (h .put-header .ensures)
+    field-put (now (a .buf)) (a .at) 0x04 (len .result) (literalBody (a .c)) mid (q .put-literals2 .last .0) next (q .put-literals2 .result) (len .ensures .0) (s .pre .1) (h .put-header .ensures)
     (subst (λ (l : List ℕ). Put mid next l (q .put-literals2 .last .0) (q .put-literals2 .result)) (told s)
     (put-then mid next (readPart (a .c)) (outputPart (a .c)) _ _ _ _ (read-room h) (p .put-literals .ensures) (q .put-literals2 .ensures)))
 

@@ -6,9 +6,11 @@ use Prim.Native.Nat.{ℕ, _+_, _≤_}
 use native.Mathlib.Omega.{arith}
 use lib.ListN.{length}
 use denote.Ref.{now}
+use Rattle.scan.specs.Set.{constraint}
 use Rattle.scan.proofs.ShapeLaws.{counts}
 use Rattle.writer.specs.Write.{fieldOf, writeOf}
 use Rattle.writer.specs.way.Write.{readFields, outputFields, constraintFields, putAt, Put}
+use Rattle.writer.proofs.LiteralBodyLaws.{masks-few}
 use Rattle.writer.proofs.WriteLaws.{put-then, countsPut, readsPut, outputsPut, constraintsPut, file-ends, room-counts, room-reads, room-outputs, room-constraints, room-end, next-room}
 use Rattle.writer.proofs.writer.put_file.Statement.{statement}
 use Rattle.writer.proofs.writer.put_file.Tie as tie
@@ -20,7 +22,7 @@ fits c = omega (arith, c .pre .1)
 -- ---- the entry, from the place after each part
 
 abbrev start-1 : tie.After-put-counts → tie.Start
-start-1 c = c .before .before .before
+start-1 c = c .before .before .before .before .before .before
 
 abbrev start-2 : tie.After-put-reads → tie.Start
 start-2 c = start-1 (c .before .before .before .before)
@@ -45,27 +47,27 @@ done-2 c =
     let s = start-2 c in
     let a = s .args in
     let buf = now (a .buf) in
-    put-then buf 0 (countsPut (a .set)) (readFields (a .set)) _ _ _ _ (room-counts (a .set) (length buf) (fits s)) (done-1 (c .before .before .before .before)) (c .put-reads .ensures)
+    put-then buf 0 (countsPut (a .set)) (readFields (a .set .reads) (a .set .r)) _ _ _ _ (room-counts (a .set) (length buf) (fits s)) (done-1 (c .before .before .before .before)) (c .put-reads .ensures)
 
 done-3 : (c : tie.After-put-outputs) → Done (start-3 c) (outputsPut (start-3 c .args .set)) (c .put-outputs .last .0) (c .put-outputs .result)
 done-3 c =
     let s = start-3 c in
     let a = s .args in
     let buf = now (a .buf) in
-    put-then buf 0 (readsPut (a .set)) (outputFields (a .set)) _ _ _ _ (room-reads (a .set) (length buf) (fits s)) (done-2 (c .before .before .before .before)) (c .put-outputs .ensures)
+    put-then buf 0 (readsPut (a .set)) (outputFields (a .set .outputs) (a .set .n)) _ _ _ _ (room-reads (a .set) (length buf) (fits s)) (done-2 (c .before .before .before .before)) (c .put-outputs .ensures)
 
 done-4 : (c : tie.After-put-constraints) → Done (start-4 c) (constraintsPut (start-4 c .args .set)) (c .put-constraints .last .0) (c .put-constraints .result)
 done-4 c =
     let s = start-4 c in
     let a = s .args in
     let buf = now (a .buf) in
-    put-then buf 0 (outputsPut (a .set)) (constraintFields (a .set)) _ _ _ _ (room-outputs (a .set) (length buf) (fits s)) (done-3 (c .before .before .before .before)) (c .put-constraints .ensures)
+    put-then buf 0 (outputsPut (a .set)) (constraintFields (a .set .constraints) (a .set .m)) _ _ _ _ (room-outputs (a .set) (length buf) (fits s)) (done-3 (c .before .before .before .before)) (c .put-constraints .ensures)
 
 -- ---- the needs
 
 put-counts-requires : tie.Need-put-counts-requires
 put-counts-requires c κs =
-    let s = c .before .before in
+    let s = c .before .before .before .before .before in
     let a = s .args in
     let k = counts (a .set) (s .pre .0) in
     omega (arith, k .r-le, k .n-le, room-counts (a .set) (length (now (a .buf))) (fits s))
@@ -76,8 +78,8 @@ put-reads-requires c κs =
     let s = start-1 p in
     let a = s .args in
     let buf = now (a .buf) in (
-      s .pre .0,
-      next-room buf 0 (countsPut (a .set)) (readFields (a .set)) (p .put-counts .last .0) (p .put-counts .result) (done-1 p) (room-reads (a .set) (length buf) (fits s)),
+      counts (a .set) (s .pre .0) .r-le,
+      next-room buf 0 (countsPut (a .set)) (readFields (a .set .reads) (a .set .r)) (p .put-counts .last .0) (p .put-counts .result) (done-1 p) (room-reads (a .set) (length buf) (fits s)),
     )
 
 put-outputs-requires : tie.Need-put-outputs-requires
@@ -86,18 +88,20 @@ put-outputs-requires c κs =
     let s = start-2 p in
     let a = s .args in
     let buf = now (a .buf) in (
-      s .pre .0,
-      next-room buf 0 (readsPut (a .set)) (outputFields (a .set)) (p .put-reads .last .0) (p .put-reads .result) (done-2 p) (room-outputs (a .set) (length buf) (fits s)),
+      counts (a .set) (s .pre .0) .n-le,
+      next-room buf 0 (readsPut (a .set)) (outputFields (a .set .outputs) (a .set .n)) (p .put-reads .last .0) (p .put-reads .result) (done-2 p) (room-outputs (a .set) (length buf) (fits s)),
     )
 
 put-constraints-requires : tie.Need-put-constraints-requires
+unfolding constraint
 put-constraints-requires c κs =
     let p = c .before .before .before in
     let s = start-3 p in
     let a = s .args in
     let buf = now (a .buf) in (
-      s .pre .0,
-      next-room buf 0 (outputsPut (a .set)) (constraintFields (a .set)) (p .put-outputs .last .0) (p .put-outputs .result) (done-3 p) (room-constraints (a .set) (length buf) (fits s)),
+      counts (a .set) (s .pre .0) .m-le,
+      masks-few (a .set) (s .pre .0),
+      next-room buf 0 (outputsPut (a .set)) (constraintFields (a .set .constraints) (a .set .m)) (p .put-outputs .last .0) (p .put-outputs .result) (done-3 p) (room-constraints (a .set) (length buf) (fits s)),
     )
 
 put-header-requires : tie.Need-put-header-requires
