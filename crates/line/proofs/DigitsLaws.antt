@@ -9,7 +9,7 @@ use native.Mathlib.Omega.{arith}
 use native.Mathlib.Nat.{pow-suc}
 use lib.Dec.{eqb}
 use lib.ListN.{getD}
-use borrow.Author.Tests.{eq-eqb, ne-eqb, eqb-true, eqb-false}
+use borrow.Author.Tests.{ne-eqb, eqb-true, eqb-false}
 use Rattle.words.proofs.BoolLaws.{by-test}
 use Rattle.line.specs.Line.{lastDigit, leading, decimal}
 use Rattle.line.specs.Digits.{saidAfter, said}

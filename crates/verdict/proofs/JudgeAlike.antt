@@ -2,7 +2,6 @@
 -- Assumes nothing.
 use mathlib.Core.Path.{_≡_, sym, ap, _∙_, subst}
 use mathlib.Core.Path.{fun-ext}
-use mathlib.Core.Bool.{true}
 use Prim.Native.Nat.{ℕ, _^_, _≤_, _<_}
 use lib.Dec.{ltb}
 use borrow.Author.Tests.{ltb-true, ltb-false}
@@ -17,7 +16,7 @@ use Rattle.scan.proofs.LoneRanks.{AlikeButLone, F0-alike, F1-alike, safe-alike,
 use Rattle.verdict.specs.declared.verdict.Verdict.{Verdict}
 use Rattle.verdict.specs.declared.verdict.Verdict.the-variants.{Accepted, BadSet, ShortScratch, NoVector, NoEnd}
 use Rattle.verdict.specs.Judge.{scratchBytes, judgeOf}
-use Rattle.verdict.specs.Meaning.{Good, FirstWithout, FirstEndless, Means}
+use Rattle.verdict.specs.Meaning.{Good, Means}
 use Rattle.verdict.proofs.MeaningLaws.{verdict-means, verdict-of}
 use Rattle.verdict.proofs.JudgeLaws.{bad-set, short-scratch}
 

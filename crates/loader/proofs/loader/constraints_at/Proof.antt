@@ -1,6 +1,6 @@
 -- `loader::loader::constraints_at` meets its contract. The loop's invariant: the fields from here on, behind the constraints so far, give what all of
 -- them give, whichever points the set has. Assumes nothing.
-use mathlib.Core.Path.{_≡_, refl, sym, ap, _∙_}
+use mathlib.Core.Path.{_≡_, sym, ap, _∙_}
 use mathlib.Core.List.{List}
 use Prim.Native.Nat.{ℕ, suc, _+_, _-_, _≤_, _<_}
 use native.Mathlib.Omega.{arith}
