@@ -1,3 +1,5 @@
+pub mod Fields
+pub mod Column
 pub mod NeverTold
 pub mod Allowed
 pub mod Promise
