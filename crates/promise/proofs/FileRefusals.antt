@@ -11,6 +11,7 @@ use lib.ListN.{length, drop}
 use borrow.Author.Tests.{ltb-true, ltb-false}
 use Rattle.words.proofs.BoolLaws.{by-test}
 use Rattle.scan.specs.declared.set.Set.{Set}
+use Rattle.scan.specs.Set.{zeroSet}
 use Rattle.scan.specs.Shape.{wellFormed}
 use Rattle.verdict.proofs.JudgeLaws.{bad-set}
 use Rattle.loader.specs.declared.loader.LoadAnswer.{LoadAnswer}
@@ -46,6 +47,7 @@ written-loads s ok file e =
     (ap (λ (l : Loaded). loadTold (l .answer)) loads, ap (λ (l : Loaded). l .set) loads)
 
 pub load-refusals : (file : List ℕ) → LoadRefusals file
+unfolding zeroSet
 load-refusals file = record {
   refused = load-refused file;
   loaded = load-taken file;

@@ -16,7 +16,7 @@ use Rattle.scan.specs.Shape.{wellFormed}
 use Rattle.machine.specs.Machine.{scanOf}
 use Rattle.scan.specs.Walk.{passesDue}
 use Rattle.machine.specs.Told.{scanTold}
-use Rattle.machine.proofs.MachineLaws.{sends-due, scan-answers, scan-keeps-set}
+use Rattle.machine.proofs.MachineLaws.{sends-due as told-due, scan-answers, scan-keeps-set}
 use Rattle.verdict.specs.Judge.{judgeOf}
 use Rattle.verdict.proofs.JudgeLaws.{scratch-is}
 use Rattle.start.specs.Start.{startOf}
@@ -35,7 +35,7 @@ use Rattle.promise.proofs.FileRefusals.{told-loaded, written-loads, loa
 use Rattle.promise.proofs.SetRefusals.{verdict-refusals}
 use Rattle.promise.proofs.ScanRefusals.{state-iff, sensor-iff, request-iff, scan-refusals}
 use Rattle.promise.proofs.NameRefusals.{find-refusals}
-use Rattle.promise.proofs.ScanLists.{told-accepted, exact-verdict, exact-start, right-scans}
+use Rattle.promise.proofs.ScanLists.{told-accepted, sends-due, exact-verdict, exact-start, right-scans}
 
 -- ---- demand 1
 
@@ -53,6 +53,7 @@ zero-not-formed =
 
 -- Demand 1 is met.
 pub demand-1 : Demand1
+unfolding zeroSet
 demand-1 = record {
   loading = load-refusals;
   writing = write-refusals;
@@ -70,8 +71,8 @@ answers : (st : State) (present request : ℕ) → StateAllowed st → SensorAll
 answers st present request a b c =
     ⊎-elim
     (λ x. inl (
-      sends-due (st .set) (a .0) (wordOf st present) request c (passesDue (st .set) (wordOf st present) request, x .0 .here) (scanOf st present request .answer)
-          (ap (λ (y : Scanned). scanTold (y .answer)) (x .1)),
+      sends-due (st .set) (a .0) (wordOf st present) request (scanOf st present request .answer) (told-due (st .set) (a .0) (wordOf st present) request c (passesDue (st .set) (wordOf st present) request, x .0 .here) (scanOf st present request .answer)
+          (ap (λ (y : Scanned). scanTold (y .answer)) (x .1))),
       ap (λ (y : Scanned). y .state) (x .1),
     ))
     (λ x. inr (x .0, ap (λ (y : Scanned). scanTold (y .answer)) (x .1)))

@@ -1,9 +1,14 @@
 pub mod Bits
+pub mod ConstraintMeanings
+pub mod HoldMeanings
+pub mod PassMeanings
 pub mod Numbers
 pub mod FileRefusals
 pub mod SetRefusals
 pub mod ScanRefusals
+pub mod ReadMeanings
 pub mod NameRefusals
+pub mod NameMeanings
 pub mod ScanLists
 pub mod Kept
 pub mod CasesHold

@@ -7,13 +7,14 @@ use mathlib.Core.Logic.{_↔_}
 use Prim.Native.Nat.{ℕ, _<_}
 use native.Mathlib.Omega.{arith}
 use lib.Dec.{ltb, leb}
-use lib.ListN.{length}
+use lib.ListN.{length, getD}
 use borrow.Author.Tests.{ltb-true, ltb-false, leb-true, le-leb}
 use Rattle.words.proofs.BoolLaws.{by-test, clash, and-true}
+use Rattle.words.proofs.LoopLaws.{all-true, all-at}
 use Rattle.scan.specs.declared.set.Set.{Set}
 use Rattle.shape.specs.declared.finding.Found.{Found}
 use Rattle.shape.specs.declared.finding.Found.the-variants.{Read, Output, BadSet, BadLength, Unknown}
-use Rattle.scan.specs.Names.{lengthOk, allNameBytes, padded, firstRead, firstOutput}
+use Rattle.scan.specs.Names.{nameByte, lengthOk, allNameBytes, padded, firstRead, firstOutput}
 use Rattle.scan.specs.Shape.{wellFormed}
 use Rattle.shape.specs.Finding.{findPadded, findOf}
 use Rattle.shape.specs.Told.{findTold}
@@ -21,14 +22,26 @@ use Rattle.shape.proofs.FindingLaws.{find-read, find-output, find-none, find-ba
 use Rattle.shape.proofs.FoundPoints.{read-found, output-found, found-read, found-output}
 use Rattle.writer.proofs.WriteLaws as Write
 use Rattle.promise.specs.Allowed.{readName, outputName, LengthAllowed, NoPoint}
+use Rattle.promise.specs.Meanings.{NameBytesMean}
 use Rattle.promise.specs.Promise.{FindRefusals}
 use Rattle.promise.proofs.Numbers.{apart, fails-not}
+
+-- a name byte is 0x21 to 0x7E
+pub name-bytes-iff : (bytes : List ℕ) → NameBytesMean bytes
+unfolding allNameBytes nameByte
+name-bytes-iff bytes = (
+  λ e k h.
+      let b = getD bytes k 0 in
+      let both = and-true (leb 0x21 b) (leb b 0x7E) (all-at (length bytes) (λ j. nameByte (getD bytes j 0)) e k h) in
+      (leb-true 0x21 b (both .0), leb-true b 0x7E (both .1)),
+  λ a. all-true (length bytes) (λ j. nameByte (getD bytes j 0)) (λ k h. ap₂ _&&_ (le-leb 0x21 (getD bytes k 0) (a k h .0)) (le-leb (getD bytes k 0) 0x7E (a k h .1))),
+)
 
 module _ (s : Set) (bytes : List ℕ) where
   abbrev found : List ℕ
   found = findTold (findOf s bytes)
 
-  long-enough : (lengthOk bytes ≡ true) ↔ LengthAllowed bytes
+  pub long-enough : (lengthOk bytes ≡ true) ↔ LengthAllowed bytes
   long-enough = (
     λ e. let both = and-true (leb 1 (length bytes)) (leb (length bytes) 8) e in (leb-true _ _ (both .0), leb-true _ _ (both .1)),
     λ a. ap₂ _&&_ (le-leb 1 (length bytes) (a .0)) (le-leb (length bytes) 8 (a .1)),
@@ -138,7 +151,7 @@ module _ (s : Set) (bytes : List ℕ) where
     not-formed = formed-case looked;
     bad-length = length-case looked;
     unknown = unknown-case looked;
-    strange = λ ok a n. ap findTold (sym (find-strange s bytes ok (a .0) (a .1) n));
+    strange = λ ok a n. ap findTold (sym (find-strange s bytes ok (a .0) (a .1) (fails-not (allNameBytes bytes) (name-bytes-iff bytes) .1 n)));
     read = λ k. (
       λ e. let f = found-read s bytes k (told-read (findOf s bytes) k e) in (point-formed 0 k looked e, f .0, sym (f .1)),
       λ x. names-read (x .0) k (x .1) (x .2),

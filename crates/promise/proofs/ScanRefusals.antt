@@ -5,10 +5,15 @@ use mathlib.Core.Bool.{true}
 use mathlib.Core.List.{List, [], _∷_}
 use mathlib.Core.Logic.{_↔_}
 use Prim.Native.Nat.{ℕ}
-use Rattle.words.proofs.BoolLaws.{by-test}
+use Rattle.words.proofs.BitLaws.{bit-below}
+use Rattle.words.proofs.BoolLaws.{by-test, clash}
+use Rattle.scan.specs.declared.set.Kind.{Kind}
+use Rattle.scan.specs.declared.set.Kind.the-variants.{Sensor, PastOutput, PastSensor}
 use Rattle.scan.specs.declared.set.Set.{Set}
 use Rattle.scan.specs.declared.set.State.{State}
 use Rattle.machine.specs.declared.machine.Scanned.{Scanned}
+use Rattle.scan.specs.Set.{kind}
+use Rattle.scan.specs.Shape.{isSensor}
 use Rattle.scan.specs.Walk.{Reaches, vectorDue, passesDue}
 use Rattle.machine.specs.Machine.{stateOk, sensorOk, requestOk, scanOf}
 use Rattle.machine.specs.Told.{scanTold}
@@ -19,12 +24,21 @@ use Rattle.writer.proofs.WriteLaws as Write
 use Rattle.promise.specs.Allowed.{StateAllowed, SensorAllowed, RequestAllowed, wordOf}
 use Rattle.promise.specs.Promise.{ScanRefusals}
 use Rattle.promise.proofs.Numbers.{apart, fails-not}
+use Rattle.promise.proofs.Bits.{bit-set, set-bit}
 
 pub state-iff : (st : State) → (stateOk st ≡ true) ↔ StateAllowed st
 state-iff st = (state-parts st, λ a. state-passes st (a .0) (a .1) (a .2))
 
 pub sensor-iff : (s : Set) (present : ℕ) → (sensorOk s present ≡ true) ↔ SensorAllowed s present
-sensor-iff s present = (λ e. (sensor-lt s present e, λ k b. sensor-bits s present e k b .1), λ a. sensor-allowed s present (a .0) (a .1))
+sensor-iff s present = (
+  λ e. (sensor-lt s present e, λ k h b. is-sensor (kind s k) (sensor-bits s present e k (set-bit k present b) .1)),
+  λ a. sensor-allowed s present (a .0) (λ k b. ap isSensor (a .1 k (bit-below (s .r) k present (a .0) b) (bit-set k present b))),
+)
+  where
+    is-sensor : (x : Kind) → isSensor x ≡ true → x ≡ Sensor
+    is-sensor Sensor e = refl
+    is-sensor (PastOutput i) e = clash e refl
+    is-sensor (PastSensor i) e = clash e refl
 
 pub request-iff : (s : Set) (request : ℕ) → (requestOk s request ≡ true) ↔ RequestAllowed s request
 request-iff s request = (request-lt s request, request-passes s request)

@@ -5,14 +5,15 @@ use mathlib.Core.Bool.{true}
 use mathlib.Core.List.{List}
 use mathlib.Core.Logic.{_≢_}
 use Prim.Native.Nat.{ℕ, _^_, _≤_, _<_}
-use lib.ListN.{length}
-use Rattle.words.specs.Word.{bit}
+use lib.ListN.{length, getD}
+use Rattle.scan.specs.declared.set.Kind.the-variants.{Sensor}
 use Rattle.scan.specs.declared.set.Set.{Set}
 use Rattle.scan.specs.declared.set.State.{State}
-use Rattle.scan.specs.Set.{namePlaces, kind, readPoint, outputPoint}
+use Rattle.scan.specs.Set.{kind, readPoint, outputPoint}
 use Rattle.scan.specs.Names.{nameBytes}
-use Rattle.scan.specs.Shape.{isSensor, wellFormed}
+use Rattle.scan.specs.Shape.{wellFormed}
 use Rattle.machine.specs.Past.{readWord}
+use Rattle.promise.specs.Terms.{Bit}
 
 -- ---- scans
 
@@ -22,7 +23,7 @@ StateAllowed st = (wellFormed (st .set) ≡ true) × (st .«past_output» < 2 ^ 
 
 -- a sensor word: it has r bits, and those that are set are at sensors
 abbrev pub SensorAllowed : Set → ℕ → Type 0
-SensorAllowed s present = (present < 2 ^ s .r) × ((k : ℕ) → bit k present ≡ true → isSensor (kind s k) ≡ true)
+SensorAllowed s present = (present < 2 ^ s .r) × ((k : ℕ) → k < s .r → Bit k present → kind s k ≡ Sensor)
 
 -- a request: it has n bits
 abbrev pub RequestAllowed : Set → ℕ → Type 0
@@ -44,7 +45,15 @@ outputName s j = nameBytes (outputPoint (s .outputs) j .name)
 
 -- 1 to 8 bytes
 abbrev pub LengthAllowed : List ℕ → Type 0
-LengthAllowed bytes = (1 ≤ length bytes) × (length bytes ≤ namePlaces)
+LengthAllowed bytes = (1 ≤ length bytes) × (length bytes ≤ 8)
+
+-- each byte is 0x21 to 0x7E
+abbrev pub NameBytes : List ℕ → Type 0
+NameBytes bytes = (k : ℕ) → k < length bytes → (0x21 ≤ getD bytes k 0) × (getD bytes k 0 ≤ 0x7E)
+
+-- bytes that a point may have as its name
+abbrev pub IsName : List ℕ → Type 0
+IsName bytes = LengthAllowed bytes × NameBytes bytes
 
 -- no point of the set bears the name
 abbrev pub NoPoint : Set → List ℕ → Type 0

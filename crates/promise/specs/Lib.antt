@@ -1,8 +1,11 @@
 pub mod Terms
+pub mod Allowed
+pub mod Zero
 pub mod Fields
 pub mod Column
-pub mod NeverTold
-pub mod Allowed
 pub mod FileSays
+pub mod Meanings
+pub mod Scans
+pub mod NeverTold
 pub mod Promise
 pub mod Cases

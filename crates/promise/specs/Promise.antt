@@ -12,15 +12,13 @@ use Prim.Native.Nat.{ℕ, _^_, _≤_, _<_}
 use lib.ListN.{length, take, drop}
 use Rattle.scan.specs.declared.set.Set.{Set}
 use Rattle.scan.specs.declared.set.State.{State}
-use Rattle.scan.specs.Set.{stateOf, freshState, zeroSet, zeroState}
-use Rattle.scan.specs.Names.{allNameBytes}
 use Rattle.scan.specs.Shape.{wellFormed}
 use Rattle.scan.specs.Walk.{Reaches, vectorDue}
 use Rattle.shape.specs.Finding.{findOf}
 use Rattle.machine.specs.Machine.{scanOf}
 use Rattle.machine.specs.Told.{scanTold}
 use Rattle.shape.specs.Told.{findTold}
-use Rattle.machine.specs.History.{Call, Sends, run, runState, followed, stateAfter, AllRight}
+use Rattle.machine.specs.History.{Call, run, runState, followed}
 use Rattle.verdict.specs.Judge.{scratchBytes, judgeOf, looseBytes}
 use Rattle.start.specs.Start.{startOf}
 use Rattle.verdict.specs.Told.{verdictTold}
@@ -32,7 +30,11 @@ use Rattle.loader.specs.Column.{loadTests}
 use Rattle.writer.specs.Write.{writeOf, writeAnswer, bufferAfter}
 use Rattle.loader.specs.Told.{loadTold}
 use Rattle.writer.specs.Told.{writeTold}
-use Rattle.promise.specs.Allowed.{StateAllowed, SensorAllowed, RequestAllowed, wordOf, readName, outputName, LengthAllowed, NoPoint}
+use Rattle.promise.specs.Zero.{allZeroSet, allZeroState}
+use Rattle.promise.specs.Allowed.{StateAllowed, SensorAllowed, RequestAllowed, wordOf, readName, outputName, LengthAllowed, NameBytes, NoPoint}
+use Rattle.promise.specs.Meanings.{Meanings, NameBytesMean, SameButLoneRanks, LoneRanksUnread}
+use Rattle.promise.specs.FileSays.{FileSays}
+use Rattle.promise.specs.Scans.{stateWith, SendsDue, EveryRight, StateOfList}
 use Rattle.promise.specs.NeverTold.{NeverTold}
 
 -- ---- demand 1: what is turned down, by which number, and what is left as it was
@@ -47,7 +49,7 @@ pub record LoadRefusals (file : List ℕ) : Type 0 where
   -- a file of bytes is loaded exactly when it has the layout: when it is the file of a well-formed set
   pub layout : Bytes file → (loadTold (loadOf file .answer) ≡ 0 ∷ []) ↔ ((s : Set) × (wellFormed s ≡ true) × (writeOf s ≡ file))
   -- a refused load carries the set with every field zero
-  pub zero : (c o : ℕ) → loadTold (loadOf file .answer) ≡ c ∷ o ∷ [] → loadOf file .set ≡ zeroSet
+  pub zero : (c o : ℕ) → loadTold (loadOf file .answer) ≡ c ∷ o ∷ [] → loadOf file .set ≡ allZeroSet
 
 -- Writing any set into any buffer.
 pub record WriteRefusals (s : Set) (buf : List ℕ) : Type 0 where
@@ -92,7 +94,7 @@ pub record FindRefusals (s : Set) (bytes : List ℕ) : Type 0 where
   pub bad-length : (findTold (findOf s bytes) ≡ 40 ∷ []) ↔ ((wellFormed s ≡ true) × (¬ LengthAllowed bytes))
   pub unknown : (findTold (findOf s bytes) ≡ 41 ∷ []) ↔ ((wellFormed s ≡ true) × LengthAllowed bytes × NoPoint s bytes)
   -- so for any name with a byte outside 0x21 to 0x7E
-  pub strange : wellFormed s ≡ true → LengthAllowed bytes → allNameBytes bytes ≡ false → findTold (findOf s bytes) ≡ 41 ∷ []
+  pub strange : wellFormed s ≡ true → LengthAllowed bytes → ¬ NameBytes bytes → findTold (findOf s bytes) ≡ 41 ∷ []
   -- a read point is found under its name and under no other, and so an output
   pub read : (k : ℕ) → (findTold (findOf s bytes) ≡ 0 ∷ 0 ∷ k ∷ []) ↔ ((wellFormed s ≡ true) × (k < s .r) × (readName s k ≡ bytes))
   pub output : (j : ℕ) → (findTold (findOf s bytes) ≡ 0 ∷ 1 ∷ j ∷ []) ↔ ((wellFormed s ≡ true) × (j < s .n) × (outputName s j ≡ bytes))
@@ -108,7 +110,7 @@ pub record Demand1 : Type 0 where
   pub finding : (s : Set) (bytes : List ℕ) → FindRefusals s bytes
   -- a set is well formed exactly when some file of bytes loads to it, and the set with every field zero is not
   pub formed : (s : Set) → (wellFormed s ≡ true) ↔ ((file : List ℕ) × Bytes file × (loadTold (loadOf file .answer) ≡ 0 ∷ []) × (loadOf file .set ≡ s))
-  pub zero-not-formed : wellFormed zeroSet ≡ false
+  pub zero-not-formed : wellFormed allZeroSet ≡ false
 
 -- ---- demand 2: what a scan sends, and files that come back
 
@@ -116,8 +118,8 @@ pub record Demand1 : Type 0 where
 -- before it, at most 2 ^ f - 1, and the next state has that vector and this sensor word; or the walk never is safe, and the answer is 33.
 abbrev pub Answers : State → ℕ → ℕ → Type 0
 Answers st present request =
-    (Sends (st .set) (wordOf st present) request (scanOf st present request .answer)
-    × (scanOf st present request .state ≡ stateOf (st .set) (vectorDue (st .set) (wordOf st present) request) present))
+    (SendsDue (st .set) (wordOf st present) request (scanOf st present request .answer)
+    × (scanOf st present request .state ≡ stateWith (st .set) (vectorDue (st .set) (wordOf st present) request) present))
     ⊎ ((¬ Reaches (st .set) (wordOf st present) request) × (scanTold (scanOf st present request .answer) ≡ 33 ∷ []))
 
 -- Demand 2.
@@ -154,9 +156,9 @@ pub record ExactStart (s : Set) (room : ℕ) : Type 0 where
   -- it says what the verdict says
   pub says : startOf s room .verdict ≡ judgeOf s room
   -- where the set is accepted, it gives a state of the set that was judged, with both pasts 0
-  pub gives : verdictTold (judgeOf s room) ≡ 0 ∷ [] → startOf s room .state ≡ freshState s
+  pub gives : verdictTold (judgeOf s room) ≡ 0 ∷ [] → startOf s room .state ≡ stateWith s 0 0
   -- where it is not, the state with every field zero
-  pub refuses : verdictTold (judgeOf s room) ≢ 0 ∷ [] → startOf s room .state ≡ zeroState
+  pub refuses : verdictTold (judgeOf s room) ≢ 0 ∷ [] → startOf s room .state ≡ allZeroState
 
 -- Every list of scans from a start of an accepted set, whatever their words, refused ones included, each handed the state that the one before
 -- it returned.
@@ -164,10 +166,10 @@ pub record RightScans (s : Set) (room : ℕ) (calls : List Call) : Type 0 where
   -- each scan is refused exactly when its words are not allowed, with the number, and any other sends the first safe vector of the walk at its
   -- read word, told from the started set and the calls alone, after at most 2 ^ f - 1 passes, which it reports; it sends the request untouched
   -- exactly when the request makes no constraint true
-  pub answers : AllRight s [] calls (run (startOf s room .state) calls)
+  pub answers : EveryRight s [] calls (run (startOf s room .state) calls)
   -- no scan changes the set, and the pasts are those of the list: the state after it is the set with the last allowed scan's vector due and
   -- sensor word
-  pub state : runState (startOf s room .state) calls ≡ stateAfter s (followed [] calls)
+  pub state : StateOfList s (followed [] calls) (runState (startOf s room .state) calls)
   -- 30 and 33 never come
   pub never-30 : NeverTold 30 (run (startOf s room .state) calls)
   pub never-33 : NeverTold 33 (run (startOf s room .state) calls)
@@ -177,3 +179,17 @@ pub record Demand3 : Type 0 where
   pub verdict : (s : Set) (room : ℕ) → wellFormed s ≡ true → scratchBytes (s .n) ≤ room → ExactVerdict s room
   pub start : (s : Set) (room : ℕ) → ExactStart s room
   pub scans : (s : Set) (room : ℕ) → verdictTold (startOf s room .verdict) ≡ 0 ∷ [] → (calls : List Call) → RightScans s room calls
+
+-- ---- the promise: the demands, and what they speak of in document 01's own terms
+
+pub record Promise : Type 0 where
+  pub demand-1 : Demand1
+  pub demand-2 : Demand2
+  pub demand-3 : Demand3
+  -- constraints, holds, passes, walks, read words and names, bit by bit and byte by byte
+  pub meanings : (s : Set) → wellFormed s ≡ true → Meanings s
+  pub name-bytes : (bytes : List ℕ) → NameBytesMean bytes
+  -- what a file says
+  pub files : (file : List ℕ) → Bytes file → loadTold (loadOf file .answer) ≡ 0 ∷ [] → FileSays file (loadOf file .set)
+  -- a lone output's rank is kept and never read
+  pub lone-ranks : (s t : Set) → wellFormed s ≡ true → wellFormed t ≡ true → SameButLoneRanks s t → LoneRanksUnread s t

@@ -2,8 +2,10 @@
 -- definition that the code meets; specs/Meanings says that what the demands speak of is what stands here.
 -- Assumes nothing.
 use mathlib.Core.Path.{_≡_}
+use mathlib.Core.Bool.{Bool, true}
 use mathlib.Core.Logic.{_⊎_, _≢_, _↔_}
 use Prim.Native.Nat.{ℕ, _/_, _%_, _^_, _≤_, _<_}
+use Rattle.words.specs.Loop.{count}
 use Rattle.scan.specs.declared.set.Kind.{Kind}
 use Rattle.scan.specs.declared.set.Kind.the-variants.{Sensor, PastOutput, PastSensor}
 use Rattle.scan.specs.declared.set.Constraint.{Constraint}
@@ -61,6 +63,10 @@ HeldOn s w k = (i : ℕ) × (i < s .m) × Simple (constraint s i) × ReadsTrue (
 -- output k is held
 abbrev pub Held : Set → ℕ → ℕ → Type 0
 Held s w k = HeldOff s w k ⊎ HeldOn s w k
+
+-- f: the number of outputs below n that are not held, counted by a test that tells them
+abbrev pub IsUnheldCount : Set → ℕ → ℕ → Type 0
+IsUnheldCount s w f = (p : ℕ → Bool) × ((k : ℕ) → k < s .n → (p k ≡ true) ↔ (¬ Held s w k)) × (f ≡ count (s .n) p)
 
 -- ---- a pass
 
