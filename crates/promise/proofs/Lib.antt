@@ -5,5 +5,6 @@ pub mod SetRefusals
 pub mod ScanRefusals
 pub mod NameRefusals
 pub mod ScanLists
+pub mod WrittenFields
 pub mod Kept
 pub mod CasesHold
