@@ -6,5 +6,6 @@ pub mod ScanRefusals
 pub mod NameRefusals
 pub mod ScanLists
 pub mod WrittenFields
+pub mod BodyLiterals
 pub mod Kept
 pub mod CasesHold
