@@ -7,5 +7,6 @@ pub mod NameRefusals
 pub mod ScanLists
 pub mod WrittenFields
 pub mod BodyLiterals
+pub mod FirstBytes
 pub mod Kept
 pub mod CasesHold
