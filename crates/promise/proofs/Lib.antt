@@ -8,5 +8,6 @@ pub mod ScanLists
 pub mod WrittenFields
 pub mod BodyLiterals
 pub mod FirstBytes
+pub mod ConstraintsSay
 pub mod Kept
 pub mod CasesHold
