@@ -9,5 +9,6 @@ pub mod WrittenFields
 pub mod BodyLiterals
 pub mod FirstBytes
 pub mod ConstraintsSay
+pub mod FilesSay
 pub mod Kept
 pub mod CasesHold
