@@ -1,12 +1,12 @@
 -- The literals of a constraint's body: those of the points in its masks, and no others.
 -- Assumes nothing.
-use mathlib.Core.Path.{_≡_, refl, sym, ap, ap₂, subst, _∙_}
+use mathlib.Core.Path.{_≡_, refl, sym, ap, subst, _∙_}
 use mathlib.Core.Bool.{Bool, true, false, cond, not}
 use mathlib.Core.List.{List, [], _∷_, _++_}
 use mathlib.Core.Logic.{_⊎_, inl, inr, ⊎-elim}
 use Prim.Native.Nat.{ℕ, zero, suc, _+_, _*_, _<_}
 use native.Mathlib.Omega.{arith}
-use lib.ListN.{length, getD}
+use lib.ListN.{getD}
 use Rattle.words.specs.Word.{bit}
 use Rattle.words.proofs.BoolLaws.{clash}
 use Rattle.words.proofs.LoopLaws.{below-suc}
@@ -16,7 +16,7 @@ use Rattle.literal.specs.declared.literal.Said.{Said}
 use Rattle.literal.proofs.LiteralLaws.{room}
 use Rattle.writer.specs.Write.{literalBody}
 use Rattle.setfile.proofs.LiteralPlaces.{said, mask}
-use Rattle.setfile.proofs.BodyPlaces.{upTo, worth, saidIf, saidOf, allSaid, by-kind}
+use Rattle.setfile.proofs.BodyPlaces.{upTo, worth, saidIf, saidOf, by-kind}
 use Rattle.setfile.proofs.LiteralBytes.{byte, bytesOf, body-said}
 use Rattle.promise.specs.FileSays.{HasLiteral, literalByte, rankByte, Says}
 
@@ -27,6 +27,7 @@ abbrev In : {A : Type 0} → A → List A → Type 0
 In x [] = ⊥
 In x (y ∷ l) = (y ≡ x) ⊎ In x l
 
+-- of two lists one after the other
 in-left : {A : Type 0} (x : A) (a b : List A) → In x a → In x (a ++ b)
 in-left x (y ∷ a) b (inl e) = inl e
 in-left x (y ∷ a) b (inr h) = inr (in-left x a b h)
@@ -145,6 +146,7 @@ module _ (c : Constraint) where
       outputs : List Said
       outputs = upTo mostOutputs (saidOf c true)
 
+  -- point k has its literal
   in-said : (o g p q : Bool) (k x : ℕ) → cond g q p ≡ true → cond g p q ≡ false → In (said o g k x) (saidIf o p q k x)
   in-said o true true q k x e f = clash refl f
   in-said o true false true k x e f = inl refl
@@ -156,7 +158,7 @@ module _ (c : Constraint) where
   pub literal-body : (o g : Bool) (k : ℕ) → k < room o → bit k (mask o g c) ≡ true → bit k (mask o (not g) c) ≡ false → Says (literalBody c) (byte o g k)
   literal-body o g k h e f =
       subst (λ (body : List ℕ). Says body (byte o g k)) (sym (body-said c ∙ ap bytesOf (by-kind c)))
-      (in-bytes (said o g k (worth o c k)) (upTo mostReads (saidOf c false) ++ upTo mostOutputs (saidOf c true)) (place o h
+      (in-bytes (said o g k (worth o c k)) (upTo mostReads (saidOf c false) ++ upTo mostOutputs (saidOf c true)) (place o
       (in-upto (said o g k (worth o c k)) (saidOf c o) (room o) k h (in-said o g (bit k (mask o false c)) (bit k (mask o true c)) k (worth o c k) (here g e) (there g f)))))
     where
       here : (g : Bool) → bit k (mask o g c) ≡ true → cond g (bit k (mask o true c)) (bit k (mask o false c)) ≡ true
@@ -167,7 +169,7 @@ module _ (c : Constraint) where
       there true e = e
       there false e = e
 
-      place : (o : Bool) → k < room o → In (said o g k (worth o c k)) (upTo (room o) (saidOf c o))
+      place : (o : Bool) → In (said o g k (worth o c k)) (upTo (room o) (saidOf c o))
           → In (said o g k (worth o c k)) (upTo mostReads (saidOf c false) ++ upTo mostOutputs (saidOf c true))
-      place true h i = in-right _ (upTo mostReads (saidOf c false)) (upTo mostOutputs (saidOf c true)) i
-      place false h i = in-left _ (upTo mostReads (saidOf c false)) (upTo mostOutputs (saidOf c true)) i
+      place true i = in-right _ (upTo mostReads (saidOf c false)) (upTo mostOutputs (saidOf c true)) i
+      place false i = in-left _ (upTo mostReads (saidOf c false)) (upTo mostOutputs (saidOf c true)) i

@@ -24,7 +24,7 @@ use Rattle.promise.proofs.BodyLiterals.{Literal, body-literal, literal-
 use Rattle.promise.proofs.FirstBytes.{byte-out, byte-number, byte-one, PointTrue, byte-true}
 
 -- a number of a point has four bits
-pub four-bits : (o : Bool) (k : ℕ) → k < room o → k < 16
+four-bits : (o : Bool) (k : ℕ) → k < room o → k < 16
 four-bits true k h = omega arith
 four-bits false k h = omega arith
 

@@ -1,9 +1,9 @@
 -- The fields of the file that is written of a set: document 01's fields, read off its bytes, are those that were put one after the other.
 -- Assumes nothing.
-use mathlib.Core.Path.{_≡_, refl, sym, ap, ap₂, subst, _∙_}
+use mathlib.Core.Path.{_≡_, refl, sym, ap, subst, _∙_}
 use mathlib.Core.Bool.{Bool, true, false, cond}
-use mathlib.Core.List.{List, [], _∷_, _++_, map, append-assoc, append-nil}
-use Prim.Native.Nat.{ℕ, zero, suc, _+_, _*_, _/_, _%_, _≤_, _<_}
+use mathlib.Core.List.{List, [], _∷_, _++_, map, append-assoc}
+use Prim.Native.Nat.{ℕ, zero, suc, _+_, _≤_, _<_}
 use native.Mathlib.Omega.{arith}
 use lib.Dec.{eqb, ltb}
 use lib.ListN.{length, getD, take, drop, replicate, length-append}
@@ -50,21 +50,24 @@ Told left ts bs =
     (most at : ℕ) → length left < most
     → (isWhole (fieldsFrom most at left) ≡ true) × (tags (fieldsFrom most at left) ≡ ts) × ((wanted : ℕ) → bodies wanted (fieldsFrom most at left) ≡ bs wanted)
 
+-- Nothing is left.
 told-none : Told [] [] (λ wanted. [])
 unfolding fieldsFrom isWhole tags bodies
 told-none zero at h = absurd (omega arith)
 told-none (suc most) at h = (refl, refl, λ wanted. refl)
 
 module _ (tag : ℕ) where
-  -- the bodies with one more
+  -- the bodies of each tag, with those of this one before them
   abbrev more : List (List ℕ) → (ℕ → List (List ℕ)) → ℕ → List (List ℕ)
   more own bs wanted = cond (eqb tag wanted) (own ++ bs wanted) (bs wanted)
 
+  -- what is told of a field and those behind it
   opened : (body : List ℕ) (at : ℕ) (f : Fields) (wanted : ℕ)
       → (isWhole (field at tag body f) ≡ isWhole f) × (tags (field at tag body f) ≡ tag ∷ tags f) × (bodies wanted (field at tag body f) ≡ more (body ∷ []) (λ w. bodies w f) wanted)
   unfolding isWhole tags bodies
   opened body at f wanted = (refl, refl, refl)
 
+  -- A field more at the front.
   told-one : (body rest ts : List ℕ) (bs : ℕ → List (List ℕ)) → Told rest ts bs → Told (fieldOf tag body ++ rest) (tag ∷ ts) (more (body ∷ []) bs)
   told-one body rest ts bs t zero at h = absurd (omega arith)
   told-one body rest ts bs t (suc most) at h =
@@ -79,6 +82,7 @@ module _ (tag : ℕ) where
         λ wanted. ap (bodies wanted) e ∙ o wanted .2 ∙ ap (λ (l : List (List ℕ)). cond (eqb tag wanted) (body ∷ l) l) (u .2 wanted),
       )
 
+  -- The fields of a list's elements at the front.
   told-run : {A : Type 0} (body : A → List ℕ) (ps : List A) (rest ts : List ℕ) (bs : ℕ → List (List ℕ)) → Told rest ts bs
       → Told (fieldsOf tag body ps ++ rest) (replicate (length ps) tag ++ ts) (more (map body ps) bs)
   unfolding fieldsOf
@@ -135,6 +139,7 @@ module _ (s : Set) (ok : wellFormed s ≡ true) where
       more 0x01 ((s .r ∷ s .n ∷ []) ∷ []) (more 0x02 (map readBody readsUsed) (more 0x03 (map outputBody outputsUsed)
       (more 0x04 (map literalBody constraintsUsed) (more 0x05 ([] ∷ []) (λ wanted. [])))))
 
+  -- The file is its fields one after the other.
   file-told : Told (writeOf s) tagsPut bodiesPut
   file-told =
       subst (λ (file : List ℕ). Told file tagsPut bodiesPut) (sym (file-parts s))
@@ -145,6 +150,7 @@ module _ (s : Set) (ok : wellFormed s ≡ true) where
   unfolding inFields
   fieldsTold = file-told (suc (length (writeOf s))) 0 (omega arith)
 
+  -- the counts are the numbers of elements
   tags-put : tagsPut ≡ 0x01 ∷ replicate (s .r) 0x02 ++ replicate (s .n) 0x03 ++ replicate (s .m) 0x04 ++ 0x05 ∷ []
   tags-put =
       let c = counts s ok in
