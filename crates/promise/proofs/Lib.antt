@@ -10,5 +10,10 @@ pub mod ReadMeanings
 pub mod NameRefusals
 pub mod NameMeanings
 pub mod ScanLists
+pub mod WrittenFields
+pub mod BodyLiterals
+pub mod FirstBytes
+pub mod ConstraintsSay
+pub mod FilesSay
 pub mod Kept
 pub mod CasesHold

@@ -1,0 +1,124 @@
+-- A file of bytes that loads says its set: the parts of the set, told from the bytes of the file's fields.
+-- Assumes nothing.
+use mathlib.Core.Path.{_≡_, refl, sym, ap, subst, _∙_}
+use mathlib.Core.Bool.{true, false}
+use mathlib.Core.List.{List, [], _∷_, _++_}
+use mathlib.Core.Logic.{_↔_}
+use Prim.Native.Nat.{ℕ, _+_, _%_, _<_}
+use lib.ListN.{getD, drop}
+use Rattle.scan.specs.declared.set.Kind.{Kind}
+use Rattle.scan.specs.declared.set.Kind.the-variants.{Sensor, PastOutput, PastSensor}
+use Rattle.scan.specs.declared.set.Set.{Set}
+use Rattle.scan.specs.Set.{readPoint, kind, constraint, rank}
+use Rattle.scan.specs.Shape.{wellFormed}
+use Rattle.scan.proofs.ShapeLaws.{counts, masks}
+use Rattle.header.specs.Bytes.{Bytes}
+use Rattle.loader.specs.Load.{loadOf}
+use Rattle.loader.specs.Told.{loadTold}
+use Rattle.writer.specs.Write.{kindBytes, literalBody, writeOf}
+use Rattle.setfile.proofs.WriteLoaded.{write-loaded}
+use Rattle.promise.specs.Allowed.{readName, outputName}
+use Rattle.promise.specs.Terms.{Bit, TrueAt}
+use Rattle.promise.specs.FileSays.{bodyOfRead, bodyOfOutput, bodyOfConstraint, KindSays, HasLiteral, literalByte, rankByte, LiteralTrue, Says, MasksSay, Guards, FileSays}
+use Rattle.promise.proofs.FileRefusals.{told-loaded}
+use Rattle.promise.proofs.NameRefusals.{find-refusals}
+use Rattle.promise.proofs.WrittenFields.{SetFields, written-fields}
+use Rattle.promise.proofs.ConstraintsSay.{mask-says, true-says, rank-says, output-says, read-says}
+
+-- ---- read points
+
+-- the first two bytes of a read point's body
+kind-says : (k : Kind) (name : List ℕ) → KindSays k (getD (kindBytes k ++ name) 0 0) (getD (kindBytes k ++ name) 1 0)
+kind-says Sensor name = (refl, refl)
+kind-says (PastOutput i) name = (refl, refl)
+kind-says (PastSensor i) name = (refl, refl)
+
+-- and those behind them
+name-says : (k : Kind) (name : List ℕ) → name ≡ drop 2 (kindBytes k ++ name)
+name-says Sensor name = refl
+name-says (PastOutput i) name = refl
+name-says (PastSensor i) name = refl
+
+-- ---- a file with the fields of a well-formed set
+
+module _ (file : List ℕ) (s : Set) (ok : wellFormed s ≡ true) (f : SetFields file s) where
+  kinds : (k : ℕ) → k < s .r → KindSays (kind s k) (getD (bodyOfRead file k) 0 0) (getD (bodyOfRead file k) 1 0)
+  unfolding kind
+  kinds k h =
+      let p = readPoint (s .reads) k in
+      subst (λ (body : List ℕ). KindSays (p .kind) (getD body 0 0) (getD body 1 0)) (sym (f .read-body k h)) (kind-says (p .kind) (readName s k))
+
+  read-names : (k : ℕ) → k < s .r → readName s k ≡ drop 2 (bodyOfRead file k)
+  read-names k h = name-says (readPoint (s .reads) k .kind) (readName s k) ∙ sym (ap (drop 2) (f .read-body k h))
+
+  output-names : (j : ℕ) → j < s .n → outputName s j ≡ bodyOfOutput file j
+  output-names j h = sym (f .output-body j h)
+
+  -- what is said of the body of a constraint is said of its field
+  module _ (i : ℕ) (h : i < s .m) where
+    by-body : (P : List ℕ → Type 0) → P (literalBody (constraint s i)) → P (bodyOfConstraint file i)
+    by-body P p = subst P (sym (f .constraint-body i h)) p
+
+    masks-say : (k : ℕ) → MasksSay file s i k
+    masks-say k =
+        let c = counts s ok in
+        let says = mask-says (s .r) (s .n) (c .r-le) (c .n-le) (constraint s i) (masks s ok i h) in
+        record {
+          read-plain = by-body (λ (body : List ℕ). Bit k (constraint s i .«read_plain») ↔ ((k < 16) × Says body k)) (says false false k);
+          read-negated = by-body (λ (body : List ℕ). Bit k (constraint s i .«read_negated») ↔ ((k < 16) × Says body (0x80 + k))) (says false true k);
+          out-plain = by-body (λ (body : List ℕ). Bit k (constraint s i .«out_plain») ↔ ((k < 16) × Says body (0x40 + k))) (says true false k);
+          out-negated = by-body (λ (body : List ℕ). Bit k (constraint s i .«out_negated») ↔ ((k < 16) × Says body (0xC0 + k))) (says true true k);
+        }
+
+    constraint-says : (w v : ℕ) → TrueAt s w v i ↔ ((j : ℕ) → HasLiteral (bodyOfConstraint file i) j → LiteralTrue (literalByte (bodyOfConstraint file i) j) w v)
+    constraint-says w v =
+        let c = counts s ok in
+        by-body (λ (body : List ℕ). TrueAt s w v i ↔ ((j : ℕ) → HasLiteral body j → LiteralTrue (literalByte body j) w v))
+        (true-says (s .r) (s .n) (c .r-le) (c .n-le) (constraint s i) (masks s ok i h) w v)
+
+    ranks-say : (j : ℕ) → HasLiteral (bodyOfConstraint file i) j → Bit 6 (literalByte (bodyOfConstraint file i) j)
+        → rank (constraint s i) (literalByte (bodyOfConstraint file i) j % 16) ≡ rankByte (bodyOfConstraint file i) j
+    ranks-say =
+        let c = counts s ok in
+        by-body (λ (body : List ℕ). (j : ℕ) → HasLiteral body j → Bit 6 (literalByte body j) → rank (constraint s i) (literalByte body j % 16) ≡ rankByte body j)
+        (rank-says (s .r) (s .n) (c .r-le) (c .n-le) (constraint s i) (masks s ok i h))
+
+    -- by names: finding gives a point for its own name
+    guards : (j : ℕ) → HasLiteral (bodyOfConstraint file i) j → Guards file s (literalByte (bodyOfConstraint file i) j)
+    guards =
+        let c = counts s ok in
+        by-body (λ (body : List ℕ). (j : ℕ) → HasLiteral body j → Guards file s (literalByte body j))
+        (λ j l.
+        let k = literalByte (literalBody (constraint s i)) j % 16 in
+        record {
+          output = λ b.
+              let within = output-says (s .r) (s .n) (c .r-le) (c .n-le) (constraint s i) (masks s ok i h) j l b in
+              find-refusals s (bodyOfOutput file k) .output k .1 (ok, within, output-names k within);
+          read = λ b.
+              let within = read-says (s .r) (s .n) (c .r-le) (c .n-le) (constraint s i) (masks s ok i h) j l b in
+              find-refusals s (drop 2 (bodyOfRead file k)) .read k .1 (ok, within, read-names k within);
+        })
+
+  fields-say : FileSays file s
+  fields-say = record {
+    whole = f .whole;
+    order = f .order;
+    counts = f .counts;
+    kinds = kinds;
+    read-names = read-names;
+    output-names = output-names;
+    constraints = constraint-says;
+    masks = masks-say;
+    ranks = ranks-say;
+    by-name = guards;
+  }
+
+-- The file of a well-formed set says the set.
+pub written-says : (s : Set) → wellFormed s ≡ true → FileSays (writeOf s) s
+written-says s ok = fields-say (writeOf s) s ok (written-fields s ok)
+
+-- A file of bytes that loads says its set.
+pub file-says : (file : List ℕ) → Bytes file → loadTold (loadOf file .answer) ≡ 0 ∷ [] → FileSays file (loadOf file .set)
+file-says file bytes e =
+    let back = write-loaded file bytes (told-loaded (loadOf file .answer) e) in
+    subst (λ (written : List ℕ). FileSays written (loadOf file .set)) (back .0) (written-says (loadOf file .set) (back .1))
