@@ -11,7 +11,7 @@ use Rattle.words.proofs.BoolLaws.{by-test}
 use Rattle.scan.specs.declared.set.Set.{Set}
 use Rattle.scan.specs.declared.set.State.{State}
 use Rattle.machine.specs.declared.machine.Scanned.{Scanned}
-use Rattle.scan.specs.Set.{zeroSet}
+use Rattle.scan.specs.Set.{zeroSet, stateOf}
 use Rattle.scan.specs.Shape.{wellFormed}
 use Rattle.machine.specs.Machine.{scanOf}
 use Rattle.scan.specs.Walk.{passesDue}
@@ -30,11 +30,19 @@ use Rattle.setfile.proofs.WriteLoaded.{write-loaded}
 use Rattle.setfile.proofs.FilesAndSets.{formed-iff}
 use Rattle.loader.proofs.RefusedZero.{zero-not-loaded}
 use Rattle.promise.specs.Allowed.{StateAllowed, SensorAllowed, RequestAllowed, wordOf}
-use Rattle.promise.specs.Promise.{Answers, Demand1, Demand2, Demand3}
+use Rattle.promise.specs.Meanings.{Meanings}
+use Rattle.promise.specs.Promise.{Answers, Demand1, Demand2, Demand3, Promise}
 use Rattle.promise.proofs.FileRefusals.{told-loaded, written-loads, load-refusals, write-refusals}
 use Rattle.promise.proofs.SetRefusals.{verdict-refusals}
 use Rattle.promise.proofs.ScanRefusals.{state-iff, sensor-iff, request-iff, scan-refusals}
-use Rattle.promise.proofs.NameRefusals.{find-refusals}
+use Rattle.promise.proofs.NameRefusals.{name-bytes-iff, find-refusals}
+use Rattle.promise.proofs.ConstraintMeanings.{constraints-mean}
+use Rattle.promise.proofs.HoldMeanings.{holds-mean}
+use Rattle.promise.proofs.PassMeanings.{pass-means, walk-means}
+use Rattle.promise.proofs.ReadMeanings.{reads-mean}
+use Rattle.promise.proofs.NameMeanings.{names-mean}
+use Rattle.promise.proofs.LoneRankMeanings.{lone-ranks-unread}
+use Rattle.promise.proofs.FilesSay.{file-says}
 use Rattle.promise.proofs.ScanLists.{told-accepted, sends-due, exact-verdict, exact-start, right-scans}
 
 -- ---- demand 1
@@ -112,4 +120,28 @@ demand-3 = record {
   verdict = exact-verdict;
   start = exact-start;
   scans = λ s room e calls. right-scans s room (told-accepted (judgeOf s room) e) calls;
+}
+
+-- ---- the promise
+
+meanings : (s : Set) → wellFormed s ≡ true → Meanings s
+meanings s ok = record {
+  constraints = constraints-mean s ok;
+  holds = holds-mean s ok;
+  pass = pass-means s ok;
+  walk = walk-means s ok;
+  reads = λ output sensor. reads-mean (stateOf s output sensor);
+  names = names-mean s ok;
+}
+
+-- The promise is kept.
+pub promise : Promise
+promise = record {
+  demand-1 = demand-1;
+  demand-2 = demand-2;
+  demand-3 = demand-3;
+  meanings = meanings;
+  name-bytes = name-bytes-iff;
+  files = file-says;
+  lone-ranks = lone-ranks-unread;
 }

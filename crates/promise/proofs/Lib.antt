@@ -9,6 +9,7 @@ pub mod ScanRefusals
 pub mod ReadMeanings
 pub mod NameRefusals
 pub mod NameMeanings
+pub mod LoneRankMeanings
 pub mod ScanLists
 pub mod WrittenFields
 pub mod BodyLiterals
