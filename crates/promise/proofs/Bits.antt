@@ -1,6 +1,6 @@
 -- `Bit k w`, which the promise speaks of, is `bit k w`, which the definitions speak of.
 -- Assumes nothing.
-use mathlib.Core.Path.{_≡_, sym}
+use mathlib.Core.Path.{_≡_}
 use mathlib.Core.Bool.{true, false}
 use mathlib.Core.Logic.{_↔_}
 use Prim.Native.Nat.{ℕ, _/_, _%_, _^_}

@@ -1,18 +1,16 @@
 -- What a constraint says, bit by bit: when it is true, simple or combined, and when a vector is safe.
 -- Assumes nothing.
-use mathlib.Core.Path.{_≡_, refl, sym, ap, ap₂, _∙_}
-use mathlib.Core.Bool.{true, false, not, _&&_, _||_}
-use mathlib.Core.Logic.{_↔_, _≢_, _⊎_, inl, inr, ⊎-elim}
+use mathlib.Core.Path.{_≡_, sym, ap, ap₂, _∙_}
+use mathlib.Core.Bool.{true, not, _&&_, _||_}
+use mathlib.Core.Logic.{_↔_, _≢_, inl, inr, ⊎-elim}
 use Prim.Native.Nat.{ℕ, zero, suc, _%_, _/_, _^_, _<_}
-use native.Mathlib.Nat.{not-suc-le-zero, le-of-suc-le-suc, lt-of-lt-of-le}
+use native.Mathlib.Nat.{not-suc-le-zero}
 use native.Mathlib.Omega.{arith}
 use lib.Count.{onesIn}
-use lib.Pow.{pow-mono}
 use lib.Dec.{eqb}
 use borrow.Author.Tests.{ltb-true, eqb-true, eqb-false}
 use Rattle.words.specs.Word.{odd, bit, meets, popcount}
-use Rattle.words.specs.Loop.{some}
-use Rattle.words.proofs.BitLaws.{bit-or, bit-half, bit-lowest, bit-below, bits-meet, meet-plain, meet-negated, digit-lt}
+use Rattle.words.proofs.BitLaws.{bit-or, bit-half, bit-lowest, bits-meet, meet-plain, meet-negated, digit-lt}
 use Rattle.words.proofs.BoolLaws.{by-test, clash, and-true, or-true, or-left, or-right}
 use Rattle.words.proofs.LoopLaws.{some-false, some-bit}
 use Rattle.scan.specs.declared.set.Constraint.{Constraint}

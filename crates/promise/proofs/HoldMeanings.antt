@@ -1,7 +1,7 @@
 -- Holds, f and the start vector, output by output.
 -- Assumes nothing.
 use mathlib.Core.Path.{_≡_, sym, ap, ap₂, _∙_}
-use mathlib.Core.Bool.{Bool, true, false, not, _&&_, _||_}
+use mathlib.Core.Bool.{true, false, not, _&&_, _||_}
 use mathlib.Core.Logic.{_↔_, _⊎_, inl, inr, ⊎-elim}
 use Prim.Native.Nat.{ℕ, _<_}
 use borrow.Author.Tests.{not-true}
@@ -19,7 +19,7 @@ use Rattle.scan.proofs.ShapeLaws.{masks}
 use Rattle.scan.proofs.HoldsLaws.{held, F0-bit, F1-bit, start-bit, start-lt, unheld-counted}
 use Rattle.promise.specs.Terms.{Bit, Simple, ReadsTrue, HeldOff, HeldOn, Held, IsUnheldCount}
 use Rattle.promise.specs.Meanings.{HoldsMean}
-use Rattle.promise.proofs.Bits.{bit-set, set-bit, bit-clear, clear-bit}
+use Rattle.promise.proofs.Bits.{bit-set, set-bit}
 use Rattle.promise.proofs.ConstraintMeanings.{reads-iff, simple-iff}
 
 module _ (s : Set) (ok : wellFormed s ≡ true) (w : ℕ) where

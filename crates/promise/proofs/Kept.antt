@@ -38,12 +38,13 @@ use Rattle.promise.proofs.ScanRefusals.{state-iff, sensor-iff, request-
 use Rattle.promise.proofs.NameRefusals.{name-bytes-iff, find-refusals}
 use Rattle.promise.proofs.ConstraintMeanings.{constraints-mean}
 use Rattle.promise.proofs.HoldMeanings.{holds-mean}
-use Rattle.promise.proofs.PassMeanings.{pass-means, walk-means}
+use Rattle.promise.proofs.PassMeanings.{ends-iff, pass-means, walk-means}
 use Rattle.promise.proofs.ReadMeanings.{reads-mean}
 use Rattle.promise.proofs.NameMeanings.{names-mean}
 use Rattle.promise.proofs.LoneRankMeanings.{lone-ranks-unread}
 use Rattle.promise.proofs.FilesSay.{file-says}
-use Rattle.promise.proofs.ScanLists.{told-accepted, sends-due, exact-verdict, exact-start, right-scans}
+use Rattle.promise.proofs.ExactVerdicts.{told-accepted, exact-verdict, exact-start}
+use Rattle.promise.proofs.ScanLists.{sends-due, right-scans}
 
 -- ---- demand 1
 
@@ -83,7 +84,7 @@ answers st present request a b c =
           (ap (λ (y : Scanned). scanTold (y .answer)) (x .1))),
       ap (λ (y : Scanned). y .state) (x .1),
     ))
-    (λ x. inr (x .0, ap (λ (y : Scanned). scanTold (y .answer)) (x .1)))
+    (λ x. inr (λ y. x .0 (ends-iff (st .set) (a .0) (wordOf st present) request .1 y), ap (λ (y : Scanned). scanTold (y .answer)) (x .1)))
     (scan-answers st present request (state-iff st .1 a) (sensor-iff (st .set) present .1 b) (request-iff (st .set) request .1 c))
 
 loads-back : (s : Set) (buf : List ℕ) (size : ℕ) → writeTold (writeAnswer s (length buf)) ≡ 0 ∷ size ∷ []

@@ -10,6 +10,7 @@ pub mod ReadMeanings
 pub mod NameRefusals
 pub mod NameMeanings
 pub mod LoneRankMeanings
+pub mod ExactVerdicts
 pub mod ScanLists
 pub mod WrittenFields
 pub mod BodyLiterals

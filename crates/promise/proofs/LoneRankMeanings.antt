@@ -5,20 +5,19 @@ use mathlib.Core.Bool.{true}
 use Prim.Native.Nat.{ℕ, _≤_, _<_}
 use native.Mathlib.Decide.{decLt}
 use native.Mathlib.Omega.{arith}
-use lib.ListN.{length, getD, List·getD-eq-default}
-use Rattle.scan.specs.declared.set.Kind.{Kind}
+use lib.ListN.{List·getD-eq-default}
 use Rattle.scan.specs.declared.set.ReadPoint.{ReadPoint}
 use Rattle.scan.specs.declared.set.Kind.the-variants.{Sensor}
 use Rattle.scan.specs.declared.set.Constraint.{Constraint}
 use Rattle.scan.specs.declared.set.Set.{Set}
-use Rattle.scan.specs.Set.{mostReads, mostConstraints, noRead, noConstraint, zeroRead, zeroConstraint, readPoint, kind, constraint}
+use Rattle.scan.specs.Set.{mostReads, mostConstraints, noRead, noConstraint, zeroConstraint, readPoint, kind, constraint}
 use Rattle.scan.specs.Shape.{wellFormed}
 use Rattle.scan.proofs.ShapeLaws.{beyond-zero, points-formed}
 use Rattle.scan.proofs.LoneRanks.{SameButLone, AlikeButLone}
 use Rattle.machine.proofs.ScanAlike.{scan-alike}
 use Rattle.verdict.proofs.JudgeAlike.{judge-alike}
 use Rattle.setfile.proofs.ZeroPlaces.{read-blank, constraint-blank}
-use Rattle.promise.specs.Meanings.{SameButLoneRank, SameButLoneRanks, LoneRanksUnread}
+use Rattle.promise.specs.Meanings.{SameButLoneRanks, LoneRanksUnread}
 use Rattle.promise.proofs.ConstraintMeanings.{combined-iff}
 
 -- what stands beyond the counts of a well-formed set, by the place alone

@@ -3,7 +3,7 @@
 use mathlib.Core.Path.{_≡_, refl, sym, ap, ap₂, _∙_}
 use mathlib.Core.Bool.{Bool, true, false, not, _&&_}
 use mathlib.Core.Logic.{_↔_}
-use Prim.Native.Nat.{ℕ, zero, suc, _^_, _≤_, _<_}
+use Prim.Native.Nat.{ℕ, _≤_, _<_}
 use native.Mathlib.Decide.{decLt}
 use native.Mathlib.Omega.{arith}
 use lib.Dec.{eqb}
@@ -15,20 +15,21 @@ use Rattle.words.proofs.BoolLaws.{by-test, clash, and-true}
 use Rattle.words.proofs.LoopLaws.{some-at, some-true}
 use Rattle.scan.specs.declared.set.Constraint.{Constraint}
 use Rattle.scan.specs.declared.set.Set.{Set}
-use Rattle.scan.specs.Set.{mostOutputs, constraint, rank, outs}
+use Rattle.scan.specs.Set.{constraint, rank, outs}
 use Rattle.scan.specs.Shape.{wellFormed}
 use Rattle.scan.specs.Constraint.{isTrue, combined, trueAt, safe}
-use Rattle.scan.specs.Holds.{unheld, unheldCount, startVector}
+use Rattle.scan.specs.Holds.{unheld}
 use Rattle.scan.specs.Pass.{lowest, fires, pass}
-use Rattle.scan.specs.Walk.{after, Reaches, FirstSafe, passesDue, vectorDue}
-use Rattle.scan.proofs.ShapeLaws.{Masks, counts, masks, outs-lt, rank-lt}
-use Rattle.scan.proofs.HoldsLaws.{held, unheld-bit, unheld-lt}
+use Rattle.scan.specs.Walk.{after, Reaches, FirstSafe, vectorDue}
+use Rattle.scan.proofs.ShapeLaws.{counts, masks, outs-lt, rank-lt}
+use Rattle.scan.proofs.HoldsLaws.{unheld-bit, unheld-lt}
 use Rattle.scan.proofs.YieldingLaws.{lowest-le, lowest-at}
 use Rattle.scan.proofs.PassLaws.{own, pass-bit, pass-agrees}
 use Rattle.scan.proofs.WalkLaws.{due-is, first-soon}
-use Rattle.promise.specs.Terms.{Bit, NamesOutput, Held, Yields, Flipped, Safe}
+use Rattle.promise.specs.Terms.{NamesOutput, Held, Yields, Flipped}
+use Rattle.promise.specs.Verdicts.{EndsSafe}
 use Rattle.promise.specs.Meanings.{PassMeans, WalkMeans}
-use Rattle.promise.proofs.Bits.{bit-set, set-bit, bit-clear, clear-bit}
+use Rattle.promise.proofs.Bits.{bit-set, set-bit, clear-bit}
 use Rattle.promise.proofs.ConstraintMeanings.{names-iff, combined-iff, true-at-iff, safe-iff}
 use Rattle.promise.proofs.HoldMeanings.{unheld-iff}
 
@@ -137,12 +138,15 @@ module _ (s : Set) (ok : wellFormed s ≡ true) (w : ℕ) where
 
   -- ---- the walk
 
+  pub ends-iff : (request : ℕ) → Reaches s w request ↔ EndsSafe s w request
+  ends-iff request = (λ a. (a .0, safe-iff s ok w (after s w request (a .0)) .0 (a .1)), λ a. (a .0, safe-iff s ok w (after s w request (a .0)) .1 (a .1)))
+
   pub walk-means : (request : ℕ) → WalkMeans s w request
   unfolding after iterate vectorDue
   walk-means request = record {
     starts = refl;
     goes-on = λ k. refl;
-    reaches = (λ a. (a .0, safe-iff s ok w _ .0 (a .1)), λ a. (a .0, safe-iff s ok w _ .1 (a .1)));
+    reaches = ends-iff request;
     due = λ fits k here before.
         let first : FirstSafe s w request k = record {
           here = safe-iff s ok w (after s w request k) .1 here;

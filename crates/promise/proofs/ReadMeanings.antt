@@ -5,7 +5,6 @@ use mathlib.Core.Bool.{true, _&&_}
 use mathlib.Core.List.{List, [], _∷_}
 use mathlib.Core.Logic.{_↔_, inl, inr}
 use Prim.Native.Nat.{ℕ, _≤_, _<_}
-use Rattle.words.specs.Word.{bit}
 use Rattle.words.proofs.BitLaws.{bit-above}
 use Rattle.words.proofs.BoolLaws.{and-true, cond-true, cond-false}
 use Rattle.scan.specs.declared.set.Kind.{Kind}
@@ -18,7 +17,6 @@ use Rattle.machine.specs.Machine.{sensorOk, requestOk}
 use Rattle.machine.specs.History.{Call, allowed, pastSensor, pastOutput, readAfter, stateAfter}
 use Rattle.machine.proofs.PastLaws.{read-bit, read-lt}
 use Rattle.promise.specs.Terms.{Bit, BitRead}
-use Rattle.promise.specs.Allowed.{wordOf}
 use Rattle.promise.specs.Meanings.{ReadsMean}
 use Rattle.promise.specs.Scans.{CallAllowed, LastAllowed, NoneAllowed, dueAfter, ReadsOfList, StateOfList}
 use Rattle.promise.proofs.Numbers.{fails-not}

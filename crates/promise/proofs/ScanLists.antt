@@ -1,4 +1,4 @@
--- Demand 3: the verdict, the start, and every list of scans from a start.
+-- Demand 3: every list of scans from a start of an accepted set.
 -- Assumes nothing.
 use mathlib.Core.Path.{_≡_, refl, sym, ap, _∙_, subst}
 use mathlib.Core.Bool.{true, false}
@@ -12,7 +12,6 @@ use Rattle.words.proofs.BoolLaws.{by-test, clash}
 use Rattle.scan.specs.declared.set.Set.{Set}
 use Rattle.scan.specs.declared.set.State.{State}
 use Rattle.machine.specs.declared.machine.ScanAnswer.{ScanAnswer}
-use Rattle.scan.specs.Set.{zeroSet}
 use Rattle.scan.specs.Shape.{wellFormed}
 use Rattle.scan.specs.Holds.{unheldCount}
 use Rattle.scan.specs.Walk.{after, passesDue, vectorDue}
@@ -20,17 +19,13 @@ use Rattle.machine.specs.Machine.{sensorOk, requestOk}
 use Rattle.machine.specs.Told.{scanTold}
 use Rattle.machine.specs.History.{Call, readAfter, run, runState, followed, stateAfter, pastSensor, pastOutput, Sends, Right, AllRight}
 use Rattle.machine.proofs.HistoryLaws.{all-right, list-state}
-use Rattle.verdict.specs.declared.verdict.Verdict.{Verdict}
-use Rattle.verdict.specs.declared.verdict.Verdict.the-variants.{Accepted, BadSet, ShortScratch, NoVector, NoEnd}
+use Rattle.verdict.specs.declared.verdict.Verdict.the-variants.{Accepted, BadSet, ShortScratch}
 use Rattle.verdict.specs.Judge.{scratchBytes, judgeOf}
 use Rattle.start.specs.Start.{startState, startOf}
-use Rattle.verdict.specs.Told.{verdictTold}
-use Rattle.verdict.specs.Meaning.{Good, Means}
+use Rattle.verdict.specs.Meaning.{Good}
 use Rattle.verdict.proofs.JudgeLaws.{bad-set, short-scratch}
-use Rattle.verdict.proofs.MeaningLaws.{verdict-of, verdict-means, rejects-exactly}
 use Rattle.promise.specs.NeverTold.{NeverTold}
-use Rattle.promise.specs.Promise.{ExactVerdict, ExactStart, RightScans}
-use Rattle.promise.specs.Zero.{allZeroState}
+use Rattle.promise.specs.Promise.{RightScans}
 use Rattle.promise.specs.Allowed.{SensorAllowed, RequestAllowed}
 use Rattle.promise.specs.Scans.{SendsDue, CallAllowed, RightScan, EveryRight, StateOfList}
 use Rattle.promise.proofs.Numbers.{apart, fails-not}
@@ -38,67 +33,7 @@ use Rattle.promise.proofs.ConstraintMeanings.{safe-iff}
 use Rattle.promise.proofs.HoldMeanings.{holds-mean}
 use Rattle.promise.proofs.ScanRefusals.{sensor-iff, request-iff}
 use Rattle.promise.proofs.ReadMeanings.{allowed-iff, reads-of-list, state-of-list}
-
--- ---- a verdict is told by its number and values
-
-pub told-accepted : (v : Verdict) → verdictTold v ≡ 0 ∷ [] → v ≡ Accepted
-told-accepted Accepted e = refl
-told-accepted BadSet e = apart 20 0 [] [] refl e
-told-accepted ShortScratch e = apart 21 0 [] [] refl e
-told-accepted (NoVector w) e = apart 22 0 (w ∷ []) [] refl e
-told-accepted (NoEnd w g) e = apart 23 0 (w ∷ g ∷ []) [] refl e
-
-told-word : (v : Verdict) (w : ℕ) → verdictTold v ≡ 22 ∷ w ∷ [] → v ≡ NoVector w
-told-word Accepted w e = apart 0 22 [] (w ∷ []) refl e
-told-word BadSet w e = apart 20 22 [] (w ∷ []) refl e
-told-word ShortScratch w e = apart 21 22 [] (w ∷ []) refl e
-told-word (NoVector u) w e = let f : u ≡ w = cc in ap NoVector f
-told-word (NoEnd u g) w e = apart 23 22 (u ∷ g ∷ []) (w ∷ []) refl e
-
-told-request : (v : Verdict) (w g : ℕ) → verdictTold v ≡ 23 ∷ w ∷ g ∷ [] → v ≡ NoEnd w g
-told-request Accepted w g e = apart 0 23 [] (w ∷ g ∷ []) refl e
-told-request BadSet w g e = apart 20 23 [] (w ∷ g ∷ []) refl e
-told-request ShortScratch w g e = apart 21 23 [] (w ∷ g ∷ []) refl e
-told-request (NoVector u) w g e = apart 22 23 (u ∷ []) (w ∷ g ∷ []) refl e
-told-request (NoEnd u h) w g e = cc
-
--- ---- the verdict
-
-module _ (s : Set) (room : ℕ) (ok : wellFormed s ≡ true) (enough : scratchBytes (s .n) ≤ room) where
-  means : (v : Verdict) → judgeOf s room ≡ v → Means s v
-  means v e = subst (Means s) e (verdict-means s ok room enough)
-
-  is : (v : Verdict) → Means s v → judgeOf s room ≡ v
-  is = verdict-of s ok room enough
-
-  pub exact-verdict : ExactVerdict s room
-  exact-verdict = record {
-    rejects = (
-      λ n. rejects-exactly s ok room enough .0 (λ e. n (ap verdictTold e)),
-      λ b e. rejects-exactly s ok room enough .1 b (told-accepted (judgeOf s room) e),
-    );
-    accepts = (λ e. means Accepted (told-accepted (judgeOf s room) e), λ m. ap verdictTold (is Accepted m));
-    names-word = λ w. (λ e. means (NoVector w) (told-word (judgeOf s room) w e), λ m. ap verdictTold (is (NoVector w) m));
-    names-request = λ w g. (λ e. means (NoEnd w g) (told-request (judgeOf s room) w g e), λ m. ap verdictTold (is (NoEnd w g) m));
-  }
-
--- ---- the start
-
-start-zero : (s : Set) (v : Verdict) → verdictTold v ≢ 0 ∷ [] → startState s v ≡ allZeroState
-unfolding zeroSet
-start-zero s Accepted n = absurd (n refl)
-start-zero s BadSet n = refl
-start-zero s ShortScratch n = refl
-start-zero s (NoVector w) n = refl
-start-zero s (NoEnd w g) n = refl
-
-pub exact-start : (s : Set) (room : ℕ) → ExactStart s room
-unfolding startOf
-exact-start s room = record {
-  says = refl;
-  gives = λ e. ap (startState s) (told-accepted (judgeOf s room) e);
-  refuses = start-zero s (judgeOf s room);
-}
+use Rattle.promise.proofs.ExactVerdicts.{means}
 
 -- ---- lists of scans
 

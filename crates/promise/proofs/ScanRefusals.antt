@@ -22,9 +22,11 @@ use Rattle.scan.proofs.WalkLaws.{reaches-or-never}
 use Rattle.machine.proofs.MachineLaws.{state-parts, state-passes, state-formed, request-lt, request-passes, scan-bad-state, scan-bad-sensor, scan-bad-request, scan-sends, scan-unsafe, refused-keeps-state}
 use Rattle.writer.proofs.WriteLaws as Write
 use Rattle.promise.specs.Allowed.{StateAllowed, SensorAllowed, RequestAllowed, wordOf}
+use Rattle.promise.specs.Verdicts.{EndsSafe}
 use Rattle.promise.specs.Promise.{ScanRefusals}
 use Rattle.promise.proofs.Numbers.{apart, fails-not}
 use Rattle.promise.proofs.Bits.{bit-set, set-bit}
+use Rattle.promise.proofs.PassMeanings.{ends-iff}
 
 pub state-iff : (st : State) → (stateOk st ≡ true) ↔ StateAllowed st
 state-iff st = (state-parts st, λ a. state-passes st (a .0) (a .1) (a .2))
@@ -52,8 +54,8 @@ module _ (st : State) (present request : ℕ) where
     bad-state : ¬ StateAllowed st → told ≡ 30 ∷ [] → Went
     bad-sensor : StateAllowed st → ¬ SensorAllowed (st .set) present → told ≡ 31 ∷ [] → Went
     bad-request : StateAllowed st → SensorAllowed (st .set) present → ¬ RequestAllowed (st .set) request → told ≡ 32 ∷ [] → Went
-    never : StateAllowed st → SensorAllowed (st .set) present → RequestAllowed (st .set) request → ¬ Reaches (st .set) (wordOf st present) request → told ≡ 33 ∷ [] → Went
-    sent : StateAllowed st → SensorAllowed (st .set) present → RequestAllowed (st .set) request → Reaches (st .set) (wordOf st present) request
+    never : StateAllowed st → SensorAllowed (st .set) present → RequestAllowed (st .set) request → ¬ EndsSafe (st .set) (wordOf st present) request → told ≡ 33 ∷ [] → Went
+    sent : StateAllowed st → SensorAllowed (st .set) present → RequestAllowed (st .set) request → EndsSafe (st .set) (wordOf st present) request
         → (v k : ℕ) → told ≡ 0 ∷ v ∷ k ∷ [] → Went
 
   went : Went
@@ -68,13 +70,16 @@ module _ (st : State) (present request : ℕ) where
       (ap (λ (x : Scanned). scanTold (x .answer)) (scan-bad-sensor st present request p q))))
       (λ p. bad-state (fails-not (stateOk st) (state-iff st) .0 p) (ap (λ (x : Scanned). scanTold (x .answer)) (scan-bad-state st present request p)))
     where
+      ends : stateOk st ≡ true → Reaches (st .set) (wordOf st present) request ↔ EndsSafe (st .set) (wordOf st present) request
+      ends p = ends-iff (st .set) (state-formed st p) (wordOf st present) request
+
       walked : stateOk st ≡ true → sensorOk (st .set) present ≡ true → requestOk (st .set) request ≡ true → Dec (Reaches (st .set) (wordOf st present) request) → Went
       walked p q r (yes e) =
-          sent (state-iff st .0 p) (sensor-iff (st .set) present .0 q) (request-iff (st .set) request .0 r) e
+          sent (state-iff st .0 p) (sensor-iff (st .set) present .0 q) (request-iff (st .set) request .0 r) (ends p .0 e)
           (vectorDue (st .set) (wordOf st present) request) (passesDue (st .set) (wordOf st present) request)
           (ap (λ (x : Scanned). scanTold (x .answer)) (scan-sends st present request p q r e))
       walked p q r (no n) =
-          never (state-iff st .0 p) (sensor-iff (st .set) present .0 q) (request-iff (st .set) request .0 r) n
+          never (state-iff st .0 p) (sensor-iff (st .set) present .0 q) (request-iff (st .set) request .0 r) (λ x. n (ends p .1 x))
           (ap (λ (x : Scanned). scanTold (x .answer)) (scan-unsafe st present request p q r n))
 
   state-case : Went → (told ≡ 30 ∷ []) ↔ (¬ StateAllowed st)
@@ -99,14 +104,14 @@ module _ (st : State) (present request : ℕ) where
   request-case (sent a b c y v k e) = (λ t. apart 0 32 (v ∷ k ∷ []) [] refl (sym e ∙ t), λ x. absurd (x .2 c))
 
   walk-case : Went → (told ≡ 33 ∷ [])
-      ↔ (StateAllowed st × SensorAllowed (st .set) present × RequestAllowed (st .set) request × (¬ Reaches (st .set) (wordOf st present) request))
+      ↔ (StateAllowed st × SensorAllowed (st .set) present × RequestAllowed (st .set) request × (¬ EndsSafe (st .set) (wordOf st present) request))
   walk-case (bad-state n e) = (λ t. apart 30 33 [] [] refl (sym e ∙ t), λ x. absurd (n (x .0)))
   walk-case (bad-sensor a n e) = (λ t. apart 31 33 [] [] refl (sym e ∙ t), λ x. absurd (n (x .1)))
   walk-case (bad-request a b n e) = (λ t. apart 32 33 [] [] refl (sym e ∙ t), λ x. absurd (n (x .2)))
   walk-case (never a b c n e) = (λ t. (a, b, c, n), λ x. e)
   walk-case (sent a b c y v k e) = (λ t. apart 0 33 (v ∷ k ∷ []) [] refl (sym e ∙ t), λ x. absurd (x .3 y))
 
-  sent-case : Went → StateAllowed st → SensorAllowed (st .set) present → RequestAllowed (st .set) request → Reaches (st .set) (wordOf st present) request
+  sent-case : Went → StateAllowed st → SensorAllowed (st .set) present → RequestAllowed (st .set) request → EndsSafe (st .set) (wordOf st present) request
       → (v : ℕ) × (k : ℕ) × (told ≡ 0 ∷ v ∷ k ∷ [])
   sent-case (bad-state n e) a b c y = absurd (n a)
   sent-case (bad-sensor _ n e) a b c y = absurd (n b)

@@ -4,6 +4,7 @@ pub mod Zero
 pub mod Fields
 pub mod Column
 pub mod FileSays
+pub mod Verdicts
 pub mod Meanings
 pub mod Scans
 pub mod NeverTold

@@ -18,6 +18,7 @@ use Rattle.scan.specs.Walk.{after, Reaches, passesDue, vectorDue}
 use Rattle.machine.specs.Machine.{scanOf}
 use Rattle.verdict.specs.Judge.{judgeOf}
 use Rattle.promise.specs.Terms.{Bit, Simple, Combined, TrueAt, Safe, HeldOff, HeldOn, IsUnheldCount, Flipped, BitRead}
+use Rattle.promise.specs.Verdicts.{EndsSafe}
 use Rattle.promise.specs.Allowed.{wordOf, readName, outputName, IsName, NameBytes}
 
 -- ---- constraints
@@ -57,7 +58,7 @@ pub record WalkMeans (s : Set) (w request : ℕ) : Type 0 where
   pub starts : after s w request zero ≡ startVector s w request
   pub goes-on : (k : ℕ) → after s w request (suc k) ≡ pass s w (after s w request k)
   -- the walk reaches a safe vector: one of its vectors is safe
-  pub reaches : Reaches s w request ↔ ((k : ℕ) × Safe s w (after s w request k))
+  pub reaches : Reaches s w request ↔ EndsSafe s w request
   -- the vector due is the walk's first safe one, and the passes are those made before it
   pub due : request < 2 ^ s .n → (k : ℕ) → Safe s w (after s w request k) → ((j : ℕ) → j < k → ¬ Safe s w (after s w request j))
       → (vectorDue s w request ≡ after s w request k) × (passesDue s w request ≡ k)

@@ -13,7 +13,7 @@ use lib.ListN.{length, take, drop}
 use Rattle.scan.specs.declared.set.Set.{Set}
 use Rattle.scan.specs.declared.set.State.{State}
 use Rattle.scan.specs.Shape.{wellFormed}
-use Rattle.scan.specs.Walk.{Reaches, vectorDue}
+use Rattle.scan.specs.Walk.{vectorDue}
 use Rattle.shape.specs.Finding.{findOf}
 use Rattle.machine.specs.Machine.{scanOf}
 use Rattle.machine.specs.Told.{scanTold}
@@ -22,7 +22,6 @@ use Rattle.machine.specs.History.{Call, run, runState, followed}
 use Rattle.verdict.specs.Judge.{scratchBytes, judgeOf, looseBytes}
 use Rattle.start.specs.Start.{startOf}
 use Rattle.verdict.specs.Told.{verdictTold}
-use Rattle.verdict.specs.Meaning.{Good, FirstWithout, FirstEndless, Bad}
 use Rattle.header.specs.Bytes.{Bytes}
 use Rattle.loader.specs.Load.{loadOf}
 use Rattle.header.specs.Test.{FirstFails, NoneFails}
@@ -34,6 +33,7 @@ use Rattle.promise.specs.Zero.{allZeroSet, allZeroState}
 use Rattle.promise.specs.Allowed.{StateAllowed, SensorAllowed, RequestAllowed, wordOf, readName, outputName, LengthAllowed, NameBytes, NoPoint}
 use Rattle.promise.specs.Meanings.{Meanings, NameBytesMean, SameButLoneRanks, LoneRanksUnread}
 use Rattle.promise.specs.FileSays.{FileSays}
+use Rattle.promise.specs.Verdicts.{EndsSafe, GoodWord, BadWord, FirstNoVector, FirstNoEnd}
 use Rattle.promise.specs.Scans.{stateWith, SendsDue, EveryRight, StateOfList}
 use Rattle.promise.specs.NeverTold.{NeverTold}
 
@@ -81,9 +81,9 @@ pub record ScanRefusals (st : State) (present request : ℕ) : Type 0 where
       ↔ (StateAllowed st × SensorAllowed (st .set) present × (¬ RequestAllowed (st .set) request))
   -- 33 exactly when the walk never reaches a safe vector
   pub unsafe : (scanTold (scanOf st present request .answer) ≡ 33 ∷ [])
-      ↔ (StateAllowed st × SensorAllowed (st .set) present × RequestAllowed (st .set) request × (¬ Reaches (st .set) (wordOf st present) request))
+      ↔ (StateAllowed st × SensorAllowed (st .set) present × RequestAllowed (st .set) request × (¬ EndsSafe (st .set) (wordOf st present) request))
   -- any other scan sends a vector
-  pub sends : StateAllowed st → SensorAllowed (st .set) present → RequestAllowed (st .set) request → Reaches (st .set) (wordOf st present) request
+  pub sends : StateAllowed st → SensorAllowed (st .set) present → RequestAllowed (st .set) request → EndsSafe (st .set) (wordOf st present) request
       → (v : ℕ) × (k : ℕ) × (scanTold (scanOf st present request .answer) ≡ 0 ∷ v ∷ k ∷ [])
   -- a refused scan gives the state as it was
   pub kept : ((v k : ℕ) → scanTold (scanOf st present request .answer) ≢ 0 ∷ v ∷ k ∷ []) → scanOf st present request .state ≡ st
@@ -120,7 +120,7 @@ abbrev pub Answers : State → ℕ → ℕ → Type 0
 Answers st present request =
     (SendsDue (st .set) (wordOf st present) request (scanOf st present request .answer)
     × (scanOf st present request .state ≡ stateWith (st .set) (vectorDue (st .set) (wordOf st present) request) present))
-    ⊎ ((¬ Reaches (st .set) (wordOf st present) request) × (scanTold (scanOf st present request .answer) ≡ 33 ∷ []))
+    ⊎ ((¬ EndsSafe (st .set) (wordOf st present) request) × (scanTold (scanOf st present request .answer) ≡ 33 ∷ []))
 
 -- Demand 2.
 pub record Demand2 : Type 0 where
@@ -143,13 +143,13 @@ pub record Demand2 : Type 0 where
 pub record ExactVerdict (s : Set) (room : ℕ) : Type 0 where
   -- the set is rejected exactly when, for some read word, no output vector leaves every constraint false, or the walk from some request never
   -- reaches one
-  pub rejects : (verdictTold (judgeOf s room) ≢ 0 ∷ []) ↔ Bad s
+  pub rejects : (verdictTold (judgeOf s room) ≢ 0 ∷ []) ↔ ((w : ℕ) × (w < 2 ^ s .r) × BadWord s w)
   -- it is accepted exactly when every read word has a safe vector and every walk reaches one
-  pub accepts : (verdictTold (judgeOf s room) ≡ 0 ∷ []) ↔ ((w : ℕ) → w < 2 ^ s .r → Good s w)
+  pub accepts : (verdictTold (judgeOf s room) ≡ 0 ∷ []) ↔ ((w : ℕ) → w < 2 ^ s .r → GoodWord s w)
   -- 22 names w exactly when w is the first word that fails and has no safe vector
-  pub names-word : (w : ℕ) → (verdictTold (judgeOf s room) ≡ 22 ∷ w ∷ []) ↔ FirstWithout s w
+  pub names-word : (w : ℕ) → (verdictTold (judgeOf s room) ≡ 22 ∷ w ∷ []) ↔ FirstNoVector s w
   -- 23 names w and g exactly when w is the first word that fails, has a safe vector, and g is the first request whose walk never reaches one
-  pub names-request : (w g : ℕ) → (verdictTold (judgeOf s room) ≡ 23 ∷ w ∷ g ∷ []) ↔ FirstEndless s w g
+  pub names-request : (w g : ℕ) → (verdictTold (judgeOf s room) ≡ 23 ∷ w ∷ g ∷ []) ↔ FirstNoEnd s w g
 
 -- The start of any set, with scratch of any size.
 pub record ExactStart (s : Set) (room : ℕ) : Type 0 where
