@@ -5,18 +5,22 @@ use lib.Count.{onesIn}
 use Rattle.words.specs.Word.{odd, bit, without, meets, popcount}
 use Rattle.words.specs.Loop.{gather, bitIf, word, some, all, firstFrom, first}
 use Rattle.scan.specs.Set.{zeroSet, constraint, kind}
-use Rattle.scan.specs.Names.{nameByte, allNameBytes, nameLength, placeOk, nameOk, nameZero, sameName, readNamed, firstRead, outputNamed, firstOutput}
+use Rattle.scan.specs.Names.{nameByte, allNameBytes, nameLength, placeOk, nameOk, nameZero, sameName, readNamed, firstRead, outputNamed, firstOutput, isUsed}
 use Rattle.scan.specs.Shape.{countTests, lengthTests, kindOk, readOk, readZero, readPlace, outputOk, outputPlace, rankOk, constraintTests, constraintZero, constraintPlace, setTests, wellFormed}
 use Rattle.scan.specs.Constraint.{readsTrue, outsTrue, isTrue, simple, combined, trueAt, safe, hasVector}
 use Rattle.scan.specs.Holds.{holding, toZero, toOne, F0, F1, unheldBy, unheld, unheldCount, startFrom, startVector}
 use Rattle.scan.specs.Pass.{lowest, hasRank, yielding, yields, fires, flips, pass}
 use Rattle.scan.specs.Walk.{walkBy, walk}
+use Rattle.shape.specs.Spelling.{spelling}
 use Rattle.shape.specs.Finding.{findPadded, findOf}
 use Rattle.machine.specs.Past.{readingAt, readWord}
 use Rattle.machine.specs.Machine.{stateOk, isPast, sensorOk, requestOk, scanOf}
 use Rattle.machine.specs.History.{run}
 use Rattle.verdict.specs.Judge.{endless, fails, rejectionBy, rejection, verdictAt, judgeWords, scratchBytes, judgeOf}
 use Rattle.start.specs.Start.{startOf}
+use Rattle.header.specs.Header.{rawOf, headerOf}
+use Rattle.literal.specs.Literal.{narrows, withLiteral, literalsFrom}
+use Rattle.loader.specs.Load.{countsAt, nameField, kindOf, readField, readOf, readAt, readsFrom, outputOf, outputAt, outputsFrom, constraintAt, constraintsFrom, loadFrom, loadOf}
 use Rattle.promise.specs.Cases.{AllAnswered, starred, further, scanCases, findCases}
 
 pub starred-hold : AllAnswered starred
@@ -33,6 +37,8 @@ unfolding onesIn odd bit without meets popcount gather bitIf word some all first
     constraintTests constraintZero constraintPlace setTests wellFormed readsTrue outsTrue isTrue simple combined trueAt safe holding toZero toOne F0
     F1 unheldBy unheld unheldCount startFrom startVector lowest hasRank yielding yields fires flips pass walkBy walk readingAt readWord stateOk isPast
     sensorOk requestOk scanOf run hasVector endless fails rejectionBy rejection verdictAt judgeWords scratchBytes judgeOf startOf
+    rawOf headerOf spelling nameField kindOf readField readOf readAt readsFrom outputOf outputAt outputsFrom narrows withLiteral literalsFrom constraintAt
+    constraintsFrom countsAt loadFrom loadOf allNameBytes isUsed
 further-hold = refl
 
 pub scans-worked : AllAnswered scanCases

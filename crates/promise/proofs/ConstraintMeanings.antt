@@ -42,8 +42,7 @@ pub true-iff : (r n : ℕ) (c : Constraint) → Masks r n c → (w v : ℕ) → 
 unfolding isTrue outsTrue
 true-iff r n c ms w v =
     let reads = reads-iff r n c ms w in
-    let outputs = all-true-iff n (c .«out_plain») (c .«out_negated») v (ms .out-plain) (ms .out-negated) in
-    (
+    let outputs = all-true-iff n (c .«out_plain») (c .«out_negated») v (ms .out-plain) (ms .out-negated) in (
       λ e. let both = and-true (readsTrue c w) (meets (c .«out_plain») (c .«out_negated») v) e in (reads .0 (both .0), outputs .0 (both .1)),
       λ a. ap₂ _&&_ (reads .1 (a .0)) (outputs .1 (a .1)),
     )
@@ -92,8 +91,7 @@ module _ (s : Set) (ok : wellFormed s ≡ true) (i : ℕ) (h : i < s .m) where
 
   alone : simple c ≡ true → Simple c
   alone e =
-      let one = some-bit (s .n) (outs c) (outs-lt (s .r) (s .n) c ms) (ms .has-out) in
-      (
+      let one = some-bit (s .n) (outs c) (outs-lt (s .r) (s .n) c ms) (ms .has-out) in (
         one .0,
         names-iff c (one .0) .0 (one .2),
         λ j nj. lone (s .r) (s .n) c (counts s ok .n-le) ms e j (one .0) (names-iff c j .1 nj) (one .2),

@@ -34,8 +34,7 @@ module _ (s : Set) (ok : wellFormed s ≡ true) (w : ℕ) where
         let at = some-at (s .m) _ e in
         let c = constraint s (at .0) in
         let both = and-true (simple c && readsTrue c w) (bit k (mask c)) (at .2) in
-        let holds = and-true (simple c) (readsTrue c w) (both .0) in
-        (
+        let holds = and-true (simple c) (readsTrue c w) (both .0) in (
           at .0,
           at .1,
           simple-iff s ok (at .0) (at .1) .0 (holds .0),

@@ -91,8 +91,7 @@ module _ (s : Set) (ok : wellFormed s ≡ true) (w : ℕ) where
           let at = some-at (s .m) _ e in
           let c = constraint s (at .0) in
           let both = and-true (combined c && isTrue c w v) _ (at .2) in
-          let fired = and-true (combined c) (isTrue c w v) (both .0) in
-          (
+          let fired = and-true (combined c) (isTrue c w v) (both .0) in (
             at .0,
             at .1,
             combined-iff s ok (at .0) (at .1) .0 (fired .0),
@@ -128,8 +127,7 @@ module _ (s : Set) (ok : wellFormed s ≡ true) (w : ℕ) where
     pub pass-means : PassMeans s w v k
     pass-means = record {
       flips = λ a.
-          let e = changes (flipped-lt a) (flipped-iff (flipped-lt a) .1 a) in
-          (
+          let e = changes (flipped-lt a) (flipped-iff (flipped-lt a) .1 a) in (
             λ b x. clash (sym (ap not (set-bit k v x)) ∙ sym e ∙ set-bit k (pass s w v) b) refl,
             λ x. bit-set k (pass s w v) (e ∙ ap not (clear-bit k v x)),
           );

@@ -33,8 +33,7 @@ reading-iff output sensor present k (PastSensor i) = bit-iff i sensor
 read-iff : (s : Set) (output sensor present k : ℕ) → k < s .r → Bit k (readWord s output sensor present) ↔ BitRead (kind s k) output sensor present k
 read-iff s output sensor present k h =
     let by = reading-iff output sensor present k (kind s k) in
-    let row = read-bit s output sensor present k h in
-    (
+    let row = read-bit s output sensor present k h in (
       λ b. by .0 (sym row ∙ set-bit k (readWord s output sensor present) b),
       λ a. bit-set k (readWord s output sensor present) (row ∙ by .1 a),
     )
@@ -67,15 +66,13 @@ module _ (s : Set) where
   unfolding pastOutput pastSensor readAfter
   last-pasts [] b earlier l = absurd l
   last-pasts (x ∷ before) b earlier (inl a) =
-      let here = allowed-iff x .1 (a .0) in
-      (
+      let here = allowed-iff x .1 (a .0) in (
         sym (cond-true (allowed s x) (dueAfter s before x) (pastOutput s before) here) ∙ ap₂ (dueAfter s) (a .2) (a .1),
         sym (cond-true (allowed s x) (x .sensor) (pastSensor s before) here) ∙ ap (λ (c : Call). c .sensor) (a .1),
       )
   last-pasts (x ∷ before) b earlier (inr a) =
       let skipped = fails-not (allowed s x) (allowed-iff x) .1 (a .0) in
-      let more = last-pasts before b earlier (a .1) in
-      (
+      let more = last-pasts before b earlier (a .1) in (
         sym (cond-false (allowed s x) (dueAfter s before x) (pastOutput s before) skipped) ∙ more .0,
         sym (cond-false (allowed s x) (x .sensor) (pastSensor s before) skipped) ∙ more .1,
       )
@@ -86,8 +83,7 @@ module _ (s : Set) where
   no-pasts [] n = (refl, refl)
   no-pasts (x ∷ before) n =
       let skipped = fails-not (allowed s x) (allowed-iff x) .1 (n .0) in
-      let more = no-pasts before (n .1) in
-      (
+      let more = no-pasts before (n .1) in (
         sym (cond-false (allowed s x) (dueAfter s before x) (pastOutput s before) skipped) ∙ more .0,
         sym (cond-false (allowed s x) (x .sensor) (pastSensor s before) skipped) ∙ more .1,
       )

@@ -1,10 +1,10 @@
--- Worked cases: the starred ones of document 01's "Tried by hand", and those for what they leave open.
+-- Worked cases: the starred ones of document 01's "Tried by hand", and those for what they leave open, some of them from the bytes of a file.
 -- Assumes nothing.
 use Prim.Native.Nat.{ℕ, _^_}
 use mathlib.Core.Path.{_≡_}
 use mathlib.Core.Bool.{cond, _||_}
-use mathlib.Core.List.{List, [], _∷_, map}
-use lib.ListN.{replicate}
+use mathlib.Core.List.{List, [], _∷_, _++_, map}
+use lib.ListN.{take, replicate}
 use Rattle.words.specs.Word.{bit}
 use Rattle.scan.specs.declared.set.Set.{Set}
 use Rattle.scan.specs.declared.set.State.{State}
@@ -18,6 +18,9 @@ use Rattle.scan.specs.Samples.{name7, name07, name007, setP, P, sensorS, nameA,
 use Rattle.verdict.specs.Judge.{judgeOf}
 use Rattle.start.specs.Start.{startOf}
 use Rattle.verdict.specs.Told.{verdictTold}
+use Rattle.loader.specs.Load.{loadOf}
+use Rattle.loader.specs.Told.{loadTold}
+use Rattle.setfile.specs.SampleFile.{fileP}
 
 -- a case: what is done, and what is answered, by document 01's numbers
 pub data Case : Type 0 where
@@ -33,19 +36,29 @@ pub data Case : Type 0 where
   held : Set → ℕ → ℕ → Case
   -- finding these bytes in the set
   finds : Set → List ℕ → List ℕ → Case
+  -- loading these bytes is answered so
+  loads : List ℕ → List ℕ → Case
+  -- these bytes are loaded, their set is accepted, and scans from its start are answered so
+  runs : List ℕ → List Call → List (List ℕ) → Case
 
 -- scratch enough
 abbrev pub enough : Set → ℕ
 enough s = 2 ^ s .n
 
+-- the verdict of a start of the set, and the answers of scans from it
+abbrev pub started : Set → List Call → List (List ℕ)
+started s calls = verdictTold (startOf s (enough s) .verdict) ∷ map scanTold (run (startOf s (enough s) .state) calls)
+
 -- what the definitions answer
 abbrev pub answered : Case → List (List ℕ)
-answered (scans s calls told) = verdictTold (startOf s (enough s) .verdict) ∷ map scanTold (run (startOf s (enough s) .state) calls)
+answered (scans s calls told) = started s calls
 answered (scansOf st calls told) = map scanTold (run st calls)
 answered (judged s room told) = verdictTold (judgeOf s room) ∷ verdictTold (startOf s room .verdict) ∷ []
 answered (free s w f) = (unheldCount s w ∷ []) ∷ []
 answered (held s w k) = (cond (bit k (F0 s w) || bit k (F1 s w)) 1 0 ∷ []) ∷ []
 answered (finds s bytes told) = findTold (findOf s bytes) ∷ []
+answered (loads file told) = loadTold (loadOf file .answer) ∷ []
+answered (runs file calls told) = loadTold (loadOf file .answer) ∷ started (loadOf file .set) calls
 
 -- what is to be answered
 abbrev pub expected : Case → List (List ℕ)
@@ -55,6 +68,8 @@ expected (judged s room told) = told ∷ told ∷ []
 expected (free s w f) = (f ∷ []) ∷ []
 expected (held s w k) = (1 ∷ []) ∷ []
 expected (finds s bytes told) = told ∷ []
+expected (loads file told) = told ∷ []
+expected (runs file calls told) = (0 ∷ []) ∷ (0 ∷ []) ∷ told
 
 -- every case of a list is answered as it is to be
 abbrev pub AllAnswered : List Case → Type 0
@@ -100,7 +115,26 @@ starred =
 abbrev pub clashingLater : Set
 clashingLater = setOf (sensorS ∷ record { kind = sensorS .kind; name = 0x74 ∷ 0 ∷ 0 ∷ 0 ∷ 0 ∷ 0 ∷ 0 ∷ 0 ∷ [] } ∷ []) (nameA ∷ []) (product 2 0 0 1 [] ∷ product 2 0 1 0 [] ∷ [])
 
--- what those leave open: verdicts, and scans from a start
+-- A file with every kind of point, a field to a line: sensors a and b, q the past of output Y, p the past of sensor b; outputs X, Y, Z; "b and not p
+-- and X"; "q and Z"; "X and Y", where Y yields; "not a and Y".
+abbrev pub fileOfKinds : List ℕ
+fileOfKinds =
+    0x01 ∷ 0x00 ∷ 0x02 ∷ 0x04 ∷ 0x03
+    ∷ 0x02 ∷ 0x00 ∷ 0x03 ∷ 0x00 ∷ 0x00 ∷ 0x61
+    ∷ 0x02 ∷ 0x00 ∷ 0x03 ∷ 0x00 ∷ 0x00 ∷ 0x62
+    ∷ 0x02 ∷ 0x00 ∷ 0x03 ∷ 0x01 ∷ 0x01 ∷ 0x71
+    ∷ 0x02 ∷ 0x00 ∷ 0x03 ∷ 0x02 ∷ 0x01 ∷ 0x70
+    ∷ 0x03 ∷ 0x00 ∷ 0x01 ∷ 0x58
+    ∷ 0x03 ∷ 0x00 ∷ 0x01 ∷ 0x59
+    ∷ 0x03 ∷ 0x00 ∷ 0x01 ∷ 0x5A
+    ∷ 0x04 ∷ 0x00 ∷ 0x06 ∷ 0x01 ∷ 0x00 ∷ 0x83 ∷ 0x00 ∷ 0x40 ∷ 0x00
+    ∷ 0x04 ∷ 0x00 ∷ 0x04 ∷ 0x02 ∷ 0x00 ∷ 0x42 ∷ 0x00
+    ∷ 0x04 ∷ 0x00 ∷ 0x04 ∷ 0x40 ∷ 0x01 ∷ 0x41 ∷ 0x00
+    ∷ 0x04 ∷ 0x00 ∷ 0x04 ∷ 0x80 ∷ 0x00 ∷ 0x41 ∷ 0x00
+    ∷ 0x05 ∷ 0x00 ∷ 0x00
+    ∷ []
+
+-- what those leave open: verdicts, scans from a start, and sets loaded from the bytes of a file
 abbrev pub further : List Case
 further =
     -- 20 before 21; 21 with one byte too few; exactly enough
@@ -120,6 +154,16 @@ further =
     -- 31 before 32: out of width, and at a past point; 32
     ∷ scans P (call 2 4 ∷ call 0 4 ∷ []) (no 31 ∷ no 32 ∷ [])
     ∷ scans risingEdge (call 2 2 ∷ []) (no 31 ∷ [])
+    -- document 01's own: the empty file, P's first 38 bytes, P and one byte more
+    ∷ loads [] (1 ∷ 0 ∷ [])
+    ∷ loads (take 38 fileP) (1 ∷ 36 ∷ [])
+    ∷ loads (fileP ++ (0 ∷ [])) (12 ∷ 39 ∷ [])
+    -- P from its bytes
+    ∷ runs fileP (call 0 1 ∷ call 0 3 ∷ call 1 3 ∷ call 1 2 ∷ []) (sent 0 1 ∷ sent 3 0 ∷ sent 0 1 ∷ sent 0 0 ∷ [])
+    -- a and b: b has risen, so that X is off; then Y was on, so that Z is off, and Y yields to X
+    ∷ runs fileOfKinds
+    (call 3 7 ∷ call 3 7 ∷ call 8 0 ∷ call 1 6 ∷ call 2 7 ∷ call 3 8 ∷ call 3 1 ∷ [])
+    (sent 6 0 ∷ sent 1 1 ∷ no 31 ∷ sent 6 0 ∷ sent 0 0 ∷ no 32 ∷ sent 1 0 ∷ [])
     ∷ []
 
 -- scans of states that no start gave
