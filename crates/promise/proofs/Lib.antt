@@ -1,4 +1,6 @@
 pub mod Numbers
+pub mod FieldsLaws
+pub mod HeadTests
 pub mod FileRefusals
 pub mod SetRefusals
 pub mod ScanRefusals
