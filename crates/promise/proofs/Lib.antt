@@ -1,6 +1,8 @@
 pub mod Numbers
 pub mod FieldsLaws
 pub mod HeadTests
+pub mod NamesSoFar
+pub mod PointTests
 pub mod FileRefusals
 pub mod SetRefusals
 pub mod ScanRefusals
