@@ -3,6 +3,7 @@ pub mod FieldsLaws
 pub mod HeadTests
 pub mod NamesSoFar
 pub mod PointTests
+pub mod LiteralTests
 pub mod FileRefusals
 pub mod SetRefusals
 pub mod ScanRefusals
