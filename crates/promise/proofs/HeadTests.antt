@@ -8,8 +8,8 @@ use Prim.Native.Nat.{ℕ, zero, suc, _+_, _%_, _≤_, _<_}
 use native.Mathlib.Omega.{arith}
 use lib.Dec.{ltb, leb, eqb}
 use lib.ListN.{length, getD, drop, length-drop, length-take}
-use borrow.Author.Tests.{eqb-true, eqb-false, leb-true, le-leb, eq-eqb}
-use Rattle.words.proofs.BoolLaws.{by-test, and-true, and-unit, or-true}
+use borrow.Author.Tests.{eqb-true, eqb-false, leb-true, le-leb, eq-eqb, ne-eqb}
+use Rattle.words.proofs.BoolLaws.{by-test, and-true, and-unit, and-false, or-true}
 use Rattle.scan.specs.declared.set.Set.{Set}
 use Rattle.scan.specs.Set.{mostConstraints}
 use Rattle.header.specs.declared.header.Header.the-variants.{Refused as Stopped, Field}
@@ -170,19 +170,38 @@ module _ (file : List ℕ) (most at wanted m : ℕ) (column : Fields → List Te
 
 -- ---- the field
 
--- A field tells what its header's tests tell, then what its body tells, and then what follows it.
-pub field-tells : (file : List ℕ) (most at wanted : ℕ) (column : Fields → List Test) (C : Column at wanted 0 column)
+-- what a body tells, and then what follows it
+pub done-tells : (at len : ℕ) (t : Taken) (s : Set) (next : ℕ → Set → Loading) (P : Type 0) (tests others : List Test) → BodyTells at t tests P
+    → (P → Tells (next (at + 3 + len) s) others) → Tells (andThen (fieldDone at len t s) next) (tests ++ others)
+done-tells at len (Denied c) s next P tests others x y = first-front tests others c at x
+done-tells at len Good s next P tests others x y = agrees-behind (next (at + 3 + len) s .progress) tests others (x .0) (y (x .1))
+
+-- A field of one tag that is due tells what its header's tests tell, then what its body tells, and then what follows it.
+pub field-tells : (file : List ℕ) (most at wanted : ℕ) → 1 ≤ wanted → wanted ≤ 3 → (column : Fields → List Test)
     (told : List ℕ → Taken) (made : List ℕ → Set) (next : ℕ → Set → Loading) (P : List ℕ → Type 0) (tests : List ℕ → List Test) (later : List ℕ → Fields → List Test)
-    → ((tag : ℕ) (body : List ℕ) (rest : Fields) → C .more tag body rest ≡ tests body ++ later body rest)
+    → column (ends at) ≡ missing at → column (cut at) ≡ missing at
+    → ((tag : ℕ) (body : List ℕ) (rest : Fields) → column (field at tag body rest) ≡ headTests at (eqb tag wanted) false tag body ++ (tests body ++ later body rest))
     → ((tag len : ℕ) (body : List ℕ) → headerOf (drop at file) wanted 0 ≡ Field tag len → length body ≡ len → BodyTells at (told body) (tests body) (P body))
     → ((tag len : ℕ) (body : List ℕ) → headerOf (drop at file) wanted 0 ≡ Field tag len → length body ≡ len → P body
     → Tells (next (at + 3 + len) (made body)) (later body (fieldsFrom most (at + 3 + len) (drop (at + 3 + len) file))))
     → Tells (andThen (fieldAt file at wanted told made) next) (column (fieldsFrom (suc most) at (drop at file)))
-field-tells file most at wanted column C told made next P tests later split one on =
-    by-header file most at wanted 0 column C
+field-tells file most at wanted low high column told made next P tests later none torn split one on =
+    by-header file most at wanted 0 column
+    (record {
+      due = λ tag. eqb tag wanted;
+      full = λ tag. false;
+      more = λ tag body rest. tests body ++ later body rest;
+      low = low;
+      high = omega arith;
+      same-due = λ tag. ap (λ (b : Bool). eqb tag wanted || (b && eqb tag 5)) (ne-eqb wanted 4 (λ e. omega arith)) ∙ or-none (eqb tag wanted);
+      same-full = λ tag. and-false (eqb tag 4) false refl;
+      at-end = none;
+      at-cut = torn;
+      at-field = split;
+    })
     (λ c h x. subst (λ (l : Loading). Tells (andThen l next) whole) (sym (ap (fieldBy file at told made) h)) x)
     (λ h long f. subst (λ (l : Loading). Tells (andThen l next) whole) (sym (ap (fieldBy file at told made) h))
-    (go (told b) (λ p x. f p (subst (Agrees p) (sym (split t b _)) x)) (one t n b h long) (on t n b h long)))
+    (f (andThen (fieldDone at n (told b) (made b)) next .progress) (done-tells at n (told b) (made b) next (P b) (tests b) _ (one t n b h long) (on t n b h long))))
   where
     whole : List Test
     whole = column (fieldsFrom (suc most) at (drop at file))
@@ -195,11 +214,3 @@ field-tells file most at wanted column C told made next P tests later split one 
 
     b : List ℕ
     b = bodyOf (drop at file) n
-
-    others : List Test
-    others = later b (fieldsFrom most (at + 3 + n) (drop (at + 3 + n) file))
-
-    go : (k : Taken) → ((p : Progress) → Agrees p (tests b ++ others) → Agrees p whole) → BodyTells at k (tests b) (P b)
-        → (P b → Tells (next (at + 3 + n) (made b)) others) → Tells (andThen (fieldDone at n k (made b)) next) whole
-    go (Denied c) f x y = f (Refused c at) (first-front (tests b) others c at x)
-    go Good f x y = f (next (at + 3 + n) (made b) .progress) (agrees-behind (next (at + 3 + n) (made b) .progress) (tests b) others (x .0) (y (x .1)))
