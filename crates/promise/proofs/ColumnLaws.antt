@@ -1,130 +1,33 @@
 -- What a load answers is told by the column of tests over the file's fields: the first that fails, or none.
 -- Assumes nothing.
-use mathlib.Core.Path.{_≡_, refl, sym, ap, ap₂, subst, _∙_}
-use mathlib.Core.Bool.{Bool, true, false, cond, not, _&&_, _||_}
+use mathlib.Core.Path.{_≡_, refl, sym, ap₂, subst, _∙_}
+use mathlib.Core.Bool.{Bool, true, false, not, _&&_}
 use mathlib.Core.List.{List, [], _∷_, _++_, append-nil, append-assoc}
-use mathlib.Core.Logic.{inl, inr, _↔_}
-use Prim.Native.Nat.{ℕ, zero, suc, _+_, _%_, _≤_, _<_}
+use mathlib.Core.Logic.{inl, _↔_}
+use Prim.Native.Nat.{ℕ, zero, suc, _+_, _≤_}
 use native.Mathlib.Omega.{arith}
-use lib.Dec.{ltb, leb, eqb, lit≤}
-use lib.ListN.{length, getD, drop, set as store, length-drop, length-set}
-use borrow.Author.Tests.{eqb-true, eqb-false, eq-eqb, ne-eqb, ltb-true, ltb-false, lt-ltb, le-ltb}
+use lib.Dec.{leb, lit≤}
+use lib.ListN.{length, getD, drop, length-set}
 use Rattle.words.specs.Loop.{every}
-use Rattle.words.proofs.BoolLaws.{by-test}
 use Rattle.scan.specs.declared.set.OutputPoint.{OutputPoint}
 use Rattle.scan.specs.declared.set.Set.{Set}
 use Rattle.scan.specs.Set.{mostReads, mostOutputs, mostConstraints, zeroSet}
 use Rattle.scan.specs.Shape.{countTests}
 use Rattle.scan.proofs.ShapeLaws.{counts-told}
-use Rattle.header.specs.declared.header.Header.the-variants.{Refused as Stopped, Field}
-use Rattle.header.specs.declared.numbers.Taken.{Taken}
-use Rattle.header.specs.declared.numbers.Taken.the-variants.{Refused as Denied, Good}
-use Rattle.header.specs.Test.{Test, test, FirstFails, NoneFails}
-use Rattle.header.specs.Header.{headerOf, bodyLength, bodyOf, fitsTable}
-use Rattle.header.proofs.HeaderLaws.{found, table-bounds, field-within, read-length, output-length, constraint-length}
-use Rattle.header.proofs.TestLaws.{first-front, first-once, none-first}
-use Rattle.literal.specs.Literal.{literalsOf}
+use Rattle.header.specs.Test.{test, FirstFails, NoneFails}
+use Rattle.header.proofs.HeaderLaws.{read-length, output-length}
+use Rattle.header.proofs.TestLaws.{first-once, none-first}
 use Rattle.loader.specs.declared.loader.Progress.{Progress}
 use Rattle.loader.specs.declared.loader.Progress.the-variants.{At, Refused}
-use Rattle.loader.specs.Load.{Loading, refusal, goingOn, thenFrom, andThen, fieldDone, goodIf, countsTold, countsMade, countsAt, readOf, withRead, readAt, readsFrom, outputOf, withOutput, outputAt, outputsFrom}
-use Rattle.loader.specs.Load.{withConstraint, constraintAt, endAt, constraintsGiven, constraintsFrom, afterCounts, afterReads, afterOutputs, answerOf, loadFrom, loadOf}
+use Rattle.loader.specs.Load.{Loading, thenFrom, andThen, goodIf, countsTold, countsMade, countsAt, readOf, withRead, readAt, readsFrom, outputOf, withOutput, outputAt, outputsFrom}
+use Rattle.loader.specs.Load.{constraintsFrom, afterCounts, afterReads, afterOutputs, answerOf, loadFrom, loadOf}
 use Rattle.loader.specs.Told.{loadTold}
-use Rattle.promise.specs.Fields.{Fields, fieldsFrom, inFields}
-use Rattle.promise.specs.Column.{countsFit, nameTests, readTests, bodyTests, endTests, constraintsTests, outputsTests, readsTests, countsTests, loadTests}
-use Rattle.promise.proofs.FieldsLaws.{fields-end, fields-follow}
-use Rattle.promise.proofs.HeadTests.{Agrees, Tells, agrees-behind, BodyTells, by-header, done-tells, field-tells}
-use Rattle.promise.proofs.NamesSoFar.{Named, NamesAre, names-none, readName, outputName}
+use Rattle.promise.specs.Fields.{fieldsFrom, inFields}
+use Rattle.promise.specs.Column.{countsFit, nameTests, readTests, constraintsTests, outputsTests, readsTests, countsTests, loadTests}
+use Rattle.promise.proofs.HeadTests.{Agrees, Tells, BodyTells, field-tells}
+use Rattle.promise.proofs.NamesSoFar.{Named, NamesAre, names-none, nameOfRead, nameOfOutput}
 use Rattle.promise.proofs.PointTests.{ReadsSoFar, ReadMade, reads-none, reads-more, read-tells, output-tells, outputs-more}
-use Rattle.promise.proofs.LiteralTests.{body-tells}
-
--- so many fields are enough for what is left from a place of the file on
-abbrev Enough : List ℕ → ℕ → ℕ → Type 0
-Enough file most at = (at ≤ length file) × (length file < most + at)
-
-enough-on : (file : List ℕ) (most at due m tag len : ℕ) → headerOf (drop at file) due m ≡ Field tag len → Enough file (suc most) at → Enough file most (at + 3 + len)
-enough-on file most at due m tag len h n = let w = field-within file at due m tag len h in let l = n .1 in (w, omega arith)
-
--- ---- the end and the constraints
-
-end-tells : (file : List ℕ) (most at : ℕ) (s : Set) → Enough file most (at + 3) → Tells (endAt file at s) (endTests (fieldsFrom most (at + 3) (drop (at + 3) file)))
-end-tells file most at s n =
-    let long = length-drop (at + 3) file in
-    let a = n .0 in
-    let b = n .1 in
-    by-test (ltb (at + 3) (length file))
-    (λ t. let h = ltb-true (at + 3) (length file) t in
-    subst (λ (x : Bool). Tells (cond x (refusal 12 (at + 3)) (goingOn (at + 3) s)) (endTests fields)) (sym t)
-    (subst (λ (x : List Test). FirstFails x 12 (at + 3)) (sym (fields-follow (at + 3) (drop (at + 3) file) most (omega arith))) (inl (refl, refl, refl))))
-    (λ t. let h = ltb-false (at + 3) (length file) t in
-    subst (λ (x : Bool). Tells (cond x (refusal 12 (at + 3)) (goingOn (at + 3) s)) (endTests fields)) (sym t)
-    (subst NoneFails (sym (fields-end (at + 3) (drop (at + 3) file) most (omega arith) (omega arith))) tt))
-  where
-    fields : Fields
-    fields = fieldsFrom most (at + 3) (drop (at + 3) file)
-
-constraints-tell : (file : List ℕ) (left most at : ℕ) (s : Set) → s .m + left ≡ suc mostConstraints → s .m ≤ mostConstraints → Enough file most at
-    → Tells (constraintsFrom file left at s) (constraintsTests (s .r) (s .n) (s .m) (fieldsFrom most at (drop at file)))
-unfolding constraintsFrom constraintsTests constraintAt
-constraints-tell file zero most at s sum few n = absurd (omega arith)
-constraints-tell file (suc left) zero at s sum few n = let a = n .0 in let b = n .1 in absurd (omega arith)
-constraints-tell file (suc left) (suc most) at s sum few n =
-    by-header file most at 4 (s .m) column
-    (record {
-      due = λ tag. eqb tag 4 || eqb tag 5;
-      full = λ tag. eqb tag 4 && leb mostConstraints (s .m);
-      more = λ tag body rest. cond (eqb tag 5) (endTests rest) (bodyTests at (s .r) (s .n) body ++ constraintsTests (s .r) (s .n) (s .m + 1) rest);
-      low = lit≤ tt;
-      high = lit≤ tt;
-      same-due = λ tag. refl;
-      same-full = λ tag. refl;
-      at-end = refl;
-      at-cut = refl;
-      at-field = λ tag body rest. refl;
-    })
-    (λ c h x. subst (λ (l : Loading). Tells l whole) (sym (ap (constraintsGiven file at s next) h)) x)
-    (λ h long f. subst (λ (l : Loading). Tells l whole) (sym (ap (constraintsGiven file at s next) h))
-    (go (eqb tag 5) f
-    (λ e. let t = eqb-true tag 5 e in
-    let w = table-bounds 5 len (subst (λ (k : ℕ). fitsTable k len ≡ true) t (found (drop at file) 4 (s .m) tag len h .table)) .1 in
-    let same : at + 3 ≡ at + 3 + len = omega arith in
-    let on = enough-on file most at 4 (s .m) tag len h n in
-    subst (λ (k : ℕ). Tells (endAt file at s) (endTests (fieldsFrom most k (drop k file)))) same
-    (end-tells file most at s (subst (Enough file most) (sym same) on)))
-    (λ e. let c = constraint-length (drop at file) (s .m) tag len (eqb-false tag 5 e) h in
-    let even : length body % 2 ≡ 0 = ap (λ (k : ℕ). k % 2) long ∙ c .1 in
-    let low = c .2 in
-    let got = literalsOf (s .r) (s .n) body in
-    done-tells at len (got .taken) (withConstraint s (got .made)) next (Unit {0}) (bodyTests at (s .r) (s .n) body) _ (body-tells at (s .r) (s .n) body even)
-    (λ u. constraints-tell file left most (at + 3 + len) (withConstraint s (got .made)) (omega arith) (omega arith) (enough-on file most at 4 (s .m) tag len h n)))))
-  where
-    column : Fields → List Test
-    column = constraintsTests (s .r) (s .n) (s .m)
-
-    whole : List Test
-    whole = column (fieldsFrom (suc most) at (drop at file))
-
-    next : ℕ → Set → Loading
-    next = constraintsFrom file left
-
-    tag : ℕ
-    tag = getD (drop at file) 0 0
-
-    len : ℕ
-    len = bodyLength (drop at file)
-
-    body : List ℕ
-    body = bodyOf (drop at file) len
-
-    rest : Fields
-    rest = fieldsFrom most (at + 3 + len) (drop (at + 3 + len) file)
-
-    more : List Test
-    more = bodyTests at (s .r) (s .n) body ++ constraintsTests (s .r) (s .n) (s .m + 1) rest
-
-    go : (b : Bool) → ((p : Progress) → Agrees p (cond b (endTests rest) more) → Agrees p whole) → (b ≡ true → Tells (endAt file at s) (endTests rest))
-        → (b ≡ false → Tells (andThen (constraintAt file at len s) next) more) → Tells (cond b (endAt file at s) (andThen (constraintAt file at len s) next)) whole
-    go true f x y = f (endAt file at s .progress) (x refl)
-    go false f x y = f (andThen (constraintAt file at len s) next .progress) (y refl)
+use Rattle.promise.proofs.EndFields.{Enough, enough-on, constraints-tell}
 
 -- ---- the points
 
@@ -140,7 +43,7 @@ then-then l f g = go (l .progress)
 abbrev Fresh : Set → Type 0
 Fresh s = (s .m ≡ 0) × (length (s .outputs) ≡ mostOutputs) × (s .r ≤ mostReads) × (s .n ≤ mostOutputs)
 
-outputs-tell : (file : List ℕ) (left j most at : ℕ) (s : Set) (a b : List (List ℕ)) → NamesAre (readName (s .reads)) (s .r) a → NamesAre (outputName (s .outputs)) j b
+outputs-tell : (file : List ℕ) (left j most at : ℕ) (s : Set) (a b : List (List ℕ)) → NamesAre (nameOfRead (s .reads)) (s .r) a → NamesAre (nameOfOutput (s .outputs)) j b
     → j + left ≡ s .n → Fresh s → Enough file most at
     → Tells (andThen (outputsFrom file left j at s) (afterOutputs file)) (outputsTests left (s .r) (s .n) (a ++ b) (fieldsFrom most at (drop at file)))
 unfolding outputsFrom outputsTests outputAt
@@ -176,7 +79,7 @@ unfolding readsFrom readsTests readAt
 reads-tell file zero i most at s kinds names so sum fresh n =
     let all : i ≡ s .r = omega arith in
     subst (λ (l : List (List ℕ)). Tells (afterReads file at s) (outputsTests (s .n) (s .r) (s .n) l (fieldsFrom most at (drop at file)))) (append-nil names)
-    (outputs-tell file (s .n) 0 most at s names [] (subst (λ (k : ℕ). NamesAre (readName (s .reads)) k names) all (so .named)) (names-none (outputName (s .outputs))) (omega arith) fresh n)
+    (outputs-tell file (s .n) 0 most at s names [] (subst (λ (k : ℕ). NamesAre (nameOfRead (s .reads)) k names) all (so .named)) (names-none (nameOfOutput (s .outputs))) (omega arith) fresh n)
 reads-tell file (suc left) i zero at s kinds names so sum fresh n = let x = n .0 in let y = n .1 in absurd (omega arith)
 reads-tell file (suc left) i (suc most) at s kinds names so sum fresh n =
     subst (λ (l : Loading). Tells l (readsTests (suc left) (s .r) (s .n) kinds names (fieldsFrom (suc most) at (drop at file))))

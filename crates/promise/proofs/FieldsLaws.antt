@@ -1,19 +1,17 @@
 -- Laws of `fieldsFrom`: at a place stands a field of it exactly where the header's definitions find one, with the same tag and body.
 -- Assumes nothing.
-use mathlib.Core.Path.{_≡_, refl, sym, ap, ap₂, _∙_}
+use mathlib.Core.Path.{_≡_, refl, ap, ap₂, _∙_}
 use mathlib.Core.Bool.{Bool, true, false, cond}
-use mathlib.Core.List.{List, [], _∷_}
+use mathlib.Core.List.{List}
 use mathlib.Core.Logic.{_⊎_, inl, inr}
 use Prim.Native.Nat.{ℕ, zero, suc, _+_, _≤_, _<_}
 use native.Mathlib.Omega.{arith}
 use lib.Dec.{eqb, ltb}
 use lib.ListN.{length, getD, take, drop, length-take, length-drop}
 use lib.Seq.{take-add, drop-at, drop-drop, length-take-le}
-use borrow.Author.Tests.{lt-ltb, le-ltb, ltb-true, ltb-false, eq-eqb, ne-eqb}
+use borrow.Author.Tests.{lt-ltb, le-ltb, ltb-true, ltb-false, ne-eqb}
 use Rattle.words.proofs.BoolLaws.{by-test, or-true, or-false}
 use Rattle.header.specs.Header.{bodyLength, isCut, bodyOf}
-use Rattle.header.specs.Test.{test}
-use Rattle.promise.specs.Column.{endTests}
 use Rattle.promise.specs.Fields.{Fields, fieldSize, fieldsFrom}
 use Rattle.promise.specs.Fields.Fields.{ends, cut, field}
 
@@ -64,19 +62,3 @@ fields-at file most at e =
     let len = bodyLength left in
     let sum : at + (3 + len) ≡ at + 3 + len = omega arith in
     fields-field at left most e ∙ ap (λ (l : List ℕ). field at (getD left 0 0) (bodyOf left len) (fieldsFrom most (at + 3 + len) l)) (drop-drop (3 + len) at file ∙ ap (λ (k : ℕ). drop k file) sum)
-
--- ---- behind the last field
-
--- nothing is left
-pub fields-end : (at : ℕ) (left : List ℕ) (most : ℕ) → length left < most → length left ≡ 0 → endTests (fieldsFrom most at left) ≡ []
-unfolding fieldsFrom endTests
-fields-end at left zero h e = absurd (omega arith)
-fields-end at left (suc most) h e = rw (eq-eqb (length left) 0 e)
-
--- something is left
-pub fields-follow : (at : ℕ) (left : List ℕ) (most : ℕ) → 0 < length left → endTests (fieldsFrom most at left) ≡ test 12 at true ∷ []
-unfolding fieldsFrom endTests
-fields-follow at left zero h = refl
-fields-follow at left (suc most) h =
-    let some : eqb (length left) 0 ≡ false = ne-eqb (length left) 0 (λ z. omega arith) in
-    by-test (ltb (length left) (fieldSize left)) (λ t. rw (some, t)) (λ t. rw (some, t))

@@ -2,12 +2,12 @@
 -- Assumes nothing.
 use mathlib.Core.Path.{_≡_, refl, sym, ap, subst, _∙_}
 use mathlib.Core.Bool.{Bool, true, false, not, _&&_, _||_}
-use mathlib.Core.List.{List, [], _∷_, _++_}
+use mathlib.Core.List.{List, _∷_, _++_}
 use mathlib.Core.Logic.{inl, inr, ⊎-elim}
-use Prim.Native.Nat.{ℕ, zero, suc, _+_, _%_, _≤_, _<_}
+use Prim.Native.Nat.{ℕ, zero, suc, _+_, _%_, _≤_}
 use native.Mathlib.Omega.{arith}
-use lib.Dec.{ltb, leb, eqb}
-use lib.ListN.{length, getD, drop, length-drop, length-take}
+use lib.Dec.{leb, eqb}
+use lib.ListN.{length, getD, drop}
 use borrow.Author.Tests.{eqb-true, eqb-false, leb-true, le-leb, eq-eqb, ne-eqb}
 use Rattle.words.proofs.BoolLaws.{by-test, and-true, and-unit, and-false, or-true}
 use Rattle.scan.specs.declared.set.Set.{Set}
@@ -15,7 +15,7 @@ use Rattle.scan.specs.Set.{mostConstraints}
 use Rattle.header.specs.declared.header.Header.the-variants.{Refused as Stopped, Field}
 use Rattle.header.specs.declared.numbers.Taken.{Taken}
 use Rattle.header.specs.declared.numbers.Taken.the-variants.{Refused as Denied, Good}
-use Rattle.header.specs.Test.{Test, test, FirstFails, NoneFails}
+use Rattle.header.specs.Test.{Test, FirstFails, NoneFails}
 use Rattle.header.specs.Header.{headerOf, bodyOf, bodyLength, isCut, isDue, fitsTable}
 use Rattle.header.proofs.TestLaws.{first-front, first-behind, none-joined}
 use Rattle.header.proofs.HeaderLaws.{raw-cut, raw-field, past-end, not-due, too-many, not-in-table, a-field}

@@ -4,6 +4,7 @@ pub mod HeadTests
 pub mod NamesSoFar
 pub mod PointTests
 pub mod LiteralTests
+pub mod EndFields
 pub mod ColumnLaws
 pub mod FileRefusals
 pub mod SetRefusals

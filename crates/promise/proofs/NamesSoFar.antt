@@ -8,10 +8,10 @@ use Prim.Native.Nat.{ℕ, zero, suc, _+_, _≤_, _<_}
 use native.Mathlib.Decide.{ℕ-discrete}
 use native.Mathlib.Omega.{arith}
 use lib.Dec.{ltb, eqb}
-use lib.ListN.{length, getD, set, length-append, length-set, List·getD-append}
-use lib.Seq.{getD-at, getD-set-same, getD-set-other}
-use borrow.Author.Tests.{ltb-true, ltb-false, lt-ltb, eqb-true, eq-eqb}
-use Rattle.words.specs.Loop.{first, all}
+use lib.ListN.{length, getD, length-append, List·getD-append}
+use lib.Seq.{getD-at}
+use borrow.Author.Tests.{ltb-true, ltb-false, eqb-true, eq-eqb}
+use Rattle.words.specs.Loop.{first}
 use Rattle.words.proofs.BoolLaws.{by-test, clash, same-truth, and-true, or-true, or-left, or-right}
 use Rattle.words.proofs.LoopLaws.{all-true, all-at, first-spec}
 use Rattle.scan.specs.declared.set.ReadPoint.{ReadPoint}
@@ -142,17 +142,17 @@ found-among name i names bytes p good few same so =
 
 -- ---- read points and outputs
 
-abbrev pub readName : List ReadPoint → ℕ → List ℕ
-readName reads k = readPoint reads k .name
+abbrev pub nameOfRead : List ReadPoint → ℕ → List ℕ
+nameOfRead reads k = readPoint reads k .name
 
-abbrev pub outputName : List OutputPoint → ℕ → List ℕ
-outputName outputs k = outputPoint outputs k .name
+abbrev pub nameOfOutput : List OutputPoint → ℕ → List ℕ
+nameOfOutput outputs k = outputPoint outputs k .name
 
 -- Bytes of a name are used by a point exactly when they are among the names.
-pub used-among : (reads : List ReadPoint) (i : ℕ) (outputs : List OutputPoint) (j : ℕ) (a b : List (List ℕ)) → NamesAre (readName reads) i a → NamesAre (outputName outputs) j b
+pub used-among : (reads : List ReadPoint) (i : ℕ) (outputs : List OutputPoint) (j : ℕ) (a b : List (List ℕ)) → NamesAre (nameOfRead reads) i a → NamesAre (nameOfOutput outputs) j b
     → (bytes : List ℕ) → allNameBytes bytes ≡ true → length bytes ≤ namePlaces → isUsed reads i outputs j (padded bytes) ≡ isAmong (a ++ b) bytes
 unfolding isUsed firstRead firstOutput readNamed outputNamed
 used-among reads i outputs j a b ra rb bytes good few =
-    ap₂ _||_ (found-among (readName reads) i a bytes (readNamed reads (padded bytes)) good few (λ k. refl) ra)
-    (found-among (outputName outputs) j b bytes (outputNamed outputs (padded bytes)) good few (λ k. refl) rb)
+    ap₂ _||_ (found-among (nameOfRead reads) i a bytes (readNamed reads (padded bytes)) good few (λ k. refl) ra)
+    (found-among (nameOfOutput outputs) j b bytes (outputNamed outputs (padded bytes)) good few (λ k. refl) rb)
     ∙ sym (among-joined a b bytes)

@@ -1,7 +1,7 @@
 -- The bodies of points: the column's tests, by the kinds and names so far, tell what the loader takes, by the points so far.
 -- Assumes nothing.
-use mathlib.Core.Path.{_≡_, refl, sym, ap, ap₂, subst, _∙_}
-use mathlib.Core.Bool.{Bool, true, false, not, _&&_, _||_}
+use mathlib.Core.Path.{_≡_, refl, sym, ap, subst, _∙_}
+use mathlib.Core.Bool.{Bool, true, false, not, _&&_}
 use mathlib.Core.List.{List, [], _∷_, _++_, append-nil}
 use mathlib.Core.Logic.{inl, inr}
 use Prim.Native.Nat.{ℕ, _+_, _≤_, _<_}
@@ -10,18 +10,18 @@ use native.Mathlib.Omega.{arith}
 use lib.Dec.{ltb, eqb}
 use lib.ListN.{length, getD, drop, set, length-append, length-drop, length-set, List·getD-append}
 use lib.Seq.{getD-at, getD-set-same, getD-set-other}
-use borrow.Author.Tests.{not-true, not-false, eqb-true, ltb-true}
+use borrow.Author.Tests.{eqb-true, ltb-true}
 use Rattle.words.proofs.BoolLaws.{by-test, clash, or-false}
 use Rattle.scan.specs.declared.set.Kind.{Kind}
 use Rattle.scan.specs.declared.set.Kind.the-variants.{Sensor, PastOutput, PastSensor}
 use Rattle.scan.specs.declared.set.ReadPoint.{ReadPoint}
 use Rattle.scan.specs.declared.set.OutputPoint.{OutputPoint}
 use Rattle.scan.specs.declared.set.Set.{Set}
-use Rattle.scan.specs.Set.{mostReads, namePlaces, readPoint, noRead, noOutput}
+use Rattle.scan.specs.Set.{mostReads, namePlaces, noRead, noOutput}
 use Rattle.scan.specs.Names.{allNameBytes, padded, isUsed}
 use Rattle.scan.specs.Shape.{isSensor}
 use Rattle.shape.proofs.SpellingLaws.{spell-name, spell-strange}
-use Rattle.header.specs.Test.{Test, test}
+use Rattle.header.specs.Test.{test}
 use Rattle.loader.specs.declared.point.KindRead.the-variants.{Bad, Known}
 use Rattle.loader.specs.declared.point.NameField.{NameField}
 use Rattle.loader.specs.declared.point.ReadField.{ReadField}
@@ -29,7 +29,7 @@ use Rattle.loader.specs.Load.{nameField, kindOf, readField, sensorAt, readOf, o
 use Rattle.loader.proofs.LoadLaws.{name-bad, name-used, name-good, read-bad, read-known}
 use Rattle.promise.specs.Column.{kindFits, goodBytes, isAmong, nameTests, readTests}
 use Rattle.promise.proofs.HeadTests.{BodyTells, body-behind}
-use Rattle.promise.proofs.NamesSoFar.{good-bytes, Named, NamesAre, names-none, names-more, readName, outputName, used-among}
+use Rattle.promise.proofs.NamesSoFar.{good-bytes, Named, NamesAre, names-none, names-more, nameOfRead, nameOfOutput, used-among}
 
 -- ---- a name
 
@@ -57,7 +57,7 @@ pub record ReadsSoFar (reads : List ReadPoint) (i : ℕ) (kinds : List ℕ) (nam
   pub long : length reads ≡ mostReads
   pub kinds-long : length kinds ≡ i
   pub sensors : (k : ℕ) → k < i → sensorAt reads k ≡ eqb (getD kinds k 0) 0
-  pub named : NamesAre (readName reads) i names
+  pub named : NamesAre (nameOfRead reads) i names
 
 -- a read point is as its body says
 pub record ReadMade (p : ReadPoint) (body : List ℕ) : Type 0 where
@@ -65,7 +65,7 @@ pub record ReadMade (p : ReadPoint) (body : List ℕ) : Type 0 where
   pub name : Named (p .name) (drop 2 body)
 
 pub reads-none : (reads : List ReadPoint) → length reads ≡ mostReads → ReadsSoFar reads 0 [] []
-reads-none reads l = record { long = l; kinds-long = refl; sensors = λ k h. absurd (omega arith); named = names-none (readName reads) }
+reads-none reads l = record { long = l; kinds-long = refl; sensors = λ k h. absurd (omega arith); named = names-none (nameOfRead reads) }
 
 pub reads-more : (reads : List ReadPoint) (i : ℕ) (kinds : List ℕ) (names : List (List ℕ)) (p : ReadPoint) (body : List ℕ) → i < mostReads → ReadMade p body
     → ReadsSoFar reads i kinds names → ReadsSoFar (set reads i p) (i + 1) (kinds ++ (getD body 0 0 ∷ [])) (names ++ (drop 2 body ∷ []))
@@ -77,7 +77,7 @@ reads-more reads i kinds names p body h made so =
       long = length-set reads i p ∙ so .long;
       kinds-long = length-append kinds (getD body 0 0 ∷ []) ∙ omega arith;
       sensors = λ k v. go k v w (ℕ-discrete k i);
-      named = names-more (readName reads) (readName (set reads i p)) i names (drop 2 body)
+      named = names-more (nameOfRead reads) (nameOfRead (set reads i p)) i names (drop 2 body)
           (λ k v. ap (λ (q : ReadPoint). q .name) (getD-set-other reads i k p noRead (λ e. omega arith)))
           (subst (λ (q : ReadPoint). Named (q .name) (drop 2 body)) (sym (getD-set-same reads i p noRead w)) (made .name)) (so .named);
     }
@@ -153,11 +153,11 @@ read-tells at s i kinds names body so low high =
     told _ (read-known (s .n) sensor used i body (k .0) named (k .1) refl)
     (body-behind at (named .taken) six rest (Named (named .name) (drop 2 body)) _ (ap not n6) (λ x. record { sensor = k .2; name = x })
     (name-tells at used names (drop 2 body) (omega arith) (omega arith)
-    (λ good. used-among (s .reads) i (s .outputs) 0 names [] (so .named) (names-none (outputName (s .outputs))) (drop 2 body) good (omega arith)
+    (λ good. used-among (s .reads) i (s .outputs) 0 names [] (so .named) (names-none (nameOfOutput (s .outputs))) (drop 2 body) good (omega arith)
     ∙ ap (λ (l : List (List ℕ)). isAmong l (drop 2 body)) (append-nil names)))))
     (λ f6. told _ (read-bad (s .n) sensor used i body (kind-bad (s .n) i sensor kinds kind index same f6)) (inl (ap not f6, refl, refl)))
 
-pub output-tells : (at : ℕ) (s : Set) (j : ℕ) (a b : List (List ℕ)) (body : List ℕ) → NamesAre (readName (s .reads)) (s .r) a → NamesAre (outputName (s .outputs)) j b
+pub output-tells : (at : ℕ) (s : Set) (j : ℕ) (a b : List (List ℕ)) (body : List ℕ) → NamesAre (nameOfRead (s .reads)) (s .r) a → NamesAre (nameOfOutput (s .outputs)) j b
     → 1 ≤ length body → length body ≤ namePlaces → BodyTells at (outputOf s j body .taken) (nameTests at (a ++ b) body) (Named (outputOf s j body .name) body)
 unfolding outputOf
 output-tells at s j a b body ra rb low high =
@@ -165,8 +165,8 @@ output-tells at s j a b body ra rb low high =
     (λ good. used-among (s .reads) (s .r) (s .outputs) j a b ra rb body good high)
 
 pub outputs-more : (outputs : List OutputPoint) (j : ℕ) (names : List (List ℕ)) (p : OutputPoint) (body : List ℕ) → j < length outputs → Named (p .name) body
-    → NamesAre (outputName outputs) j names → NamesAre (outputName (set outputs j p)) (j + 1) (names ++ (body ∷ []))
+    → NamesAre (nameOfOutput outputs) j names → NamesAre (nameOfOutput (set outputs j p)) (j + 1) (names ++ (body ∷ []))
 outputs-more outputs j names p body h named so =
-    names-more (outputName outputs) (outputName (set outputs j p)) j names body
+    names-more (nameOfOutput outputs) (nameOfOutput (set outputs j p)) j names body
     (λ k v. ap (λ (q : OutputPoint). q .name) (getD-set-other outputs j k p noOutput (λ e. omega arith)))
     (subst (λ (q : OutputPoint). Named (q .name) body) (sym (getD-set-same outputs j p noOutput h)) named) so
