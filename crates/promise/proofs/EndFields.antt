@@ -35,13 +35,13 @@ enough-on file most at due m tag len h n = let w = field-within file at due m ta
 -- ---- behind the last field
 
 -- nothing is left
-pub fields-end : (at : ℕ) (left : List ℕ) (most : ℕ) → length left < most → length left ≡ 0 → endTests (fieldsFrom most at left) ≡ []
+fields-end : (at : ℕ) (left : List ℕ) (most : ℕ) → length left < most → length left ≡ 0 → endTests (fieldsFrom most at left) ≡ []
 unfolding fieldsFrom endTests
 fields-end at left zero h e = absurd (omega arith)
 fields-end at left (suc most) h e = rw (eq-eqb (length left) 0 e)
 
 -- something is left
-pub fields-follow : (at : ℕ) (left : List ℕ) (most : ℕ) → 0 < length left → endTests (fieldsFrom most at left) ≡ test 12 at true ∷ []
+fields-follow : (at : ℕ) (left : List ℕ) (most : ℕ) → 0 < length left → endTests (fieldsFrom most at left) ≡ test 12 at true ∷ []
 unfolding fieldsFrom endTests
 fields-follow at left zero h = refl
 fields-follow at left (suc most) h =

@@ -36,7 +36,7 @@ module _ (at : ℕ) (left : List ℕ) where
       by-test (eqb (length left) 0) (λ t. inl (rw t)) (λ t. inr (rw (t, lt-ltb _ _ short)))
 
   -- else there is a field
-  pub fields-field : (most : ℕ) → isCut left ≡ false
+  fields-field : (most : ℕ) → isCut left ≡ false
       → fieldsFrom (suc most) at left ≡ field at (getD left 0 0) (bodyOf left (bodyLength left)) (fieldsFrom most (at + 3 + bodyLength left) (drop (3 + bodyLength left) left))
   unfolding fieldsFrom
   fields-field most e =

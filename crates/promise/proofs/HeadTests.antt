@@ -37,7 +37,7 @@ Agrees (Refused c o) column = FirstFails column c o
 abbrev pub Tells : Loading → List Test → Type 0
 Tells l column = Agrees (l .progress) column
 
-pub agrees-behind : (p : Progress) (a b : List Test) → NoneFails a → Agrees p b → Agrees p (a ++ b)
+agrees-behind : (p : Progress) (a b : List Test) → NoneFails a → Agrees p b → Agrees p (a ++ b)
 agrees-behind (At at) a b n x = none-joined a b n x
 agrees-behind (Refused c o) a b n x = first-behind a b c o n x
 
@@ -104,7 +104,7 @@ due-between wanted tag l h e =
 -- ---- the header
 
 -- A column of tests over the fields at a place: where no field is, one is missing; else the tests of its header, and more.
-pub record Column (at wanted m : ℕ) (column : Fields → List Test) : Type 1 where
+pub record HeadColumn (at wanted m : ℕ) (column : Fields → List Test) : Type 1 where
   pub due : ℕ → Bool
   pub full : ℕ → Bool
   pub more : ℕ → List ℕ → Fields → List Test
@@ -116,7 +116,7 @@ pub record Column (at wanted m : ℕ) (column : Fields → List Test) : Type 1 w
   pub at-cut : column (cut at) ≡ missing at
   pub at-field : (tag : ℕ) (body : List ℕ) (rest : Fields) → column (field at tag body rest) ≡ headTests at (due tag) (full tag) tag body ++ more tag body rest
 
-module _ (file : List ℕ) (most at wanted m : ℕ) (column : Fields → List Test) (C : Column at wanted m column) where
+module _ (file : List ℕ) (most at wanted m : ℕ) (column : Fields → List Test) (C : HeadColumn at wanted m column) where
   abbrev left : List ℕ
   left = drop at file
 

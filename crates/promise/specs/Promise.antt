@@ -28,10 +28,10 @@ use Rattle.verdict.specs.Meaning.{Good, FirstWithout, FirstEndless, Bad}
 use Rattle.header.specs.Bytes.{Bytes}
 use Rattle.loader.specs.Load.{loadOf}
 use Rattle.header.specs.Test.{FirstFails, NoneFails}
+use Rattle.promise.specs.Column.{loadTests}
 use Rattle.writer.specs.Write.{writeOf, writeAnswer, bufferAfter}
 use Rattle.loader.specs.Told.{loadTold}
 use Rattle.writer.specs.Told.{writeTold}
-use Rattle.promise.specs.Column.{loadTests}
 use Rattle.promise.specs.Allowed.{StateAllowed, SensorAllowed, RequestAllowed, wordOf, readName, outputName, LengthAllowed, NoPoint}
 use Rattle.promise.specs.NeverTold.{NeverTold}
 
