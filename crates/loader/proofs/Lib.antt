@@ -2,4 +2,3 @@ pub mod LoadLaws
 pub mod LoadWayLaws
 pub mod LoadTurns
 pub mod RefusedZero
-pub mod ColumnLaws

@@ -1,4 +1,3 @@
 pub mod Load
-pub mod Column
 pub mod Told
 pub mod way

@@ -22,13 +22,13 @@ use Rattle.writer.specs.Write.{writeOf, writeAnswer, bufferAfter}
 use Rattle.writer.specs.way.Write.{putAt}
 use Rattle.loader.specs.Told.{loadTold}
 use Rattle.writer.specs.Told.{writeTold}
-use Rattle.loader.proofs.ColumnLaws.{load-refused, load-taken}
 use Rattle.setfile.proofs.LoadWritten.{load-written}
 use Rattle.setfile.proofs.WriteLoaded.{write-loaded}
 use Rattle.loader.proofs.RefusedZero.{refused-zero}
 use Rattle.writer.proofs.WriteLaws as Write
 use Rattle.promise.specs.Promise.{LoadRefusals, WriteRefusals}
 use Rattle.promise.proofs.Numbers.{apart}
+use Rattle.promise.proofs.ColumnLaws.{load-refused, load-taken}
 
 -- ---- loading
 

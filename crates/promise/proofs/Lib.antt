@@ -3,6 +3,13 @@ pub mod ConstraintMeanings
 pub mod HoldMeanings
 pub mod PassMeanings
 pub mod Numbers
+pub mod FieldsLaws
+pub mod HeadTests
+pub mod NamesSoFar
+pub mod PointTests
+pub mod LiteralTests
+pub mod EndFields
+pub mod ColumnLaws
 pub mod FileRefusals
 pub mod SetRefusals
 pub mod ScanRefusals
