@@ -27,6 +27,7 @@ use Rattle.writer.specs.Write.{writeOf, writeAnswer, bufferAfter}
 use Rattle.loader.specs.Told.{loadTold}
 use Rattle.writer.specs.Told.{writeTold}
 use Rattle.setfile.proofs.WriteLoaded.{write-loaded}
+use Rattle.setfile.proofs.WrittenBytes.{written-bytes}
 use Rattle.setfile.proofs.FilesAndSets.{formed-iff}
 use Rattle.loader.proofs.RefusedZero.{zero-not-loaded}
 use Rattle.promise.specs.Allowed.{StateAllowed, SensorAllowed, RequestAllowed, wordOf}
@@ -41,6 +42,7 @@ use Rattle.promise.proofs.HoldMeanings.{holds-mean}
 use Rattle.promise.proofs.PassMeanings.{ends-iff, pass-means, walk-means}
 use Rattle.promise.proofs.ReadMeanings.{reads-mean}
 use Rattle.promise.proofs.NameMeanings.{names-mean}
+use Rattle.promise.proofs.PlaceMeanings.{places-mean}
 use Rattle.promise.proofs.LoneRankMeanings.{lone-ranks-unread}
 use Rattle.promise.proofs.FilesSay.{file-says}
 use Rattle.promise.proofs.ExactVerdicts.{told-accepted, exact-verdict, exact-start}
@@ -110,7 +112,14 @@ one-file f g bf bg ef eg same =
 
 -- Demand 2 is met.
 pub demand-2 : Demand2
-demand-2 = record { scan = answers; same-set = scan-keeps-set; load-written = loads-back; write-loaded = writes-back; one-file = one-file }
+demand-2 = record {
+  scan = answers;
+  same-set = scan-keeps-set;
+  load-written = loads-back;
+  writes-bytes = written-bytes;
+  write-loaded = writes-back;
+  one-file = one-file;
+}
 
 -- ---- demand 3
 
@@ -133,6 +142,7 @@ meanings s ok = record {
   walk = walk-means s ok;
   reads = λ output sensor. reads-mean (stateOf s output sensor);
   names = names-mean s ok;
+  places = places-mean s ok;
 }
 
 -- The promise is kept.

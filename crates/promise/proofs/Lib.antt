@@ -16,6 +16,7 @@ pub mod ScanRefusals
 pub mod ReadMeanings
 pub mod NameRefusals
 pub mod NameMeanings
+pub mod PlaceMeanings
 pub mod LoneRankMeanings
 pub mod ExactVerdicts
 pub mod ScanLists

@@ -3,13 +3,14 @@
 -- Assumes nothing.
 use mathlib.Core.Path.{_≡_}
 use mathlib.Core.Bool.{true}
-use mathlib.Core.List.{List}
+use mathlib.Core.List.{List, _++_}
 use mathlib.Core.Logic.{_↔_, _⊎_, _≢_}
-use Prim.Native.Nat.{ℕ, zero, suc, _^_, _<_, _≤_}
+use Prim.Native.Nat.{ℕ, zero, suc, _-_, _^_, _<_, _≤_}
+use lib.ListN.{length, replicate}
 use Rattle.scan.specs.declared.set.Constraint.{Constraint}
 use Rattle.scan.specs.declared.set.Set.{Set}
 use Rattle.scan.specs.declared.set.State.{State}
-use Rattle.scan.specs.Set.{constraint, kind, stateOf}
+use Rattle.scan.specs.Set.{readPoint, outputPoint, constraint, kind, rank, stateOf}
 use Rattle.scan.specs.Names.{allNameBytes}
 use Rattle.scan.specs.Constraint.{simple, combined, trueAt, safe}
 use Rattle.scan.specs.Holds.{F0, F1, unheldCount, startVector}
@@ -17,7 +18,8 @@ use Rattle.scan.specs.Pass.{pass}
 use Rattle.scan.specs.Walk.{after, Reaches, passesDue, vectorDue}
 use Rattle.machine.specs.Machine.{scanOf}
 use Rattle.verdict.specs.Judge.{judgeOf}
-use Rattle.promise.specs.Terms.{Bit, Simple, Combined, TrueAt, Safe, HeldOff, HeldOn, IsUnheldCount, Flipped, BitRead}
+use Rattle.promise.specs.Zero.{allZeroRead, allZeroOutput, allZeroConstraint}
+use Rattle.promise.specs.Terms.{Bit, NamesOutput, Simple, Combined, TrueAt, Safe, HeldOff, HeldOn, IsUnheldCount, Flipped, BitRead}
 use Rattle.promise.specs.Verdicts.{EndsSafe}
 use Rattle.promise.specs.Allowed.{wordOf, readName, outputName, IsName, NameBytes}
 
@@ -80,6 +82,21 @@ pub record NamesMean (s : Set) : Type 0 where
   pub one-output : (j k : ℕ) → j < s .n → k < s .n → outputName s j ≡ outputName s k → j ≡ k
   pub two-kinds : (k j : ℕ) → k < s .r → j < s .n → readName s k ≢ outputName s j
 
+-- ---- places
+
+pub record PlacesMean (s : Set) : Type 0 where
+  -- each point keeps its name in eight byte places, unused ones zero
+  pub read-name : (k : ℕ) → k < s .r → readPoint (s .reads) k .name ≡ readName s k ++ replicate (8 - length (readName s k)) 0
+  pub output-name : (j : ℕ) → j < s .n → outputPoint (s .outputs) j .name ≡ outputName s j ++ replicate (8 - length (outputName s j)) 0
+  -- there are sixteen places for read points, twelve for outputs, sixty-four for constraints and twelve for a constraint's ranks
+  pub places : (length (s .reads) ≡ 16) × (length (s .outputs) ≡ 12) × (length (s .constraints) ≡ 64)
+  pub rank-places : (i : ℕ) → i < s .m → length (constraint s i .ranks) ≡ 12
+  -- places beyond the counts are zero, and the rank of an output that a constraint does not name
+  pub read-beyond : (k : ℕ) → s .r ≤ k → k < 16 → readPoint (s .reads) k ≡ allZeroRead
+  pub output-beyond : (j : ℕ) → s .n ≤ j → j < 12 → outputPoint (s .outputs) j ≡ allZeroOutput
+  pub constraint-beyond : (i : ℕ) → s .m ≤ i → i < 64 → constraint s i ≡ allZeroConstraint
+  pub rank-unnamed : (i : ℕ) → i < s .m → (k : ℕ) → ¬ NamesOutput (constraint s i) k → rank (constraint s i) k ≡ 0
+
 -- ---- all of them
 
 pub record Meanings (s : Set) : Type 0 where
@@ -89,6 +106,7 @@ pub record Meanings (s : Set) : Type 0 where
   pub walk : (w request : ℕ) → WalkMeans s w request
   pub reads : (output sensor present : ℕ) → ReadsMean (stateOf s output sensor) present
   pub names : NamesMean s
+  pub places : PlacesMean s
 
 -- ---- a lone output's rank is kept and never read
 

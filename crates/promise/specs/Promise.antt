@@ -133,6 +133,8 @@ pub record Demand2 : Type 0 where
   -- loading a written set, from the front of the buffer that it was written into, gives that set
   pub load-written : (s : Set) (buf : List ℕ) (size : ℕ) → writeTold (writeAnswer s (length buf)) ≡ 0 ∷ size ∷ []
       → (loadTold (loadOf (take size (bufferAfter s buf)) .answer) ≡ 0 ∷ []) × (loadOf (take size (bufferAfter s buf)) .set ≡ s)
+  -- what is written is bytes
+  pub writes-bytes : (s : Set) → wellFormed s ≡ true → Bytes (writeOf s)
   -- writing a loaded file, into a buffer that is long enough, gives that file
   pub write-loaded : (file buf : List ℕ) → Bytes file → loadTold (loadOf file .answer) ≡ 0 ∷ [] → length file ≤ length buf
       → (writeTold (writeAnswer (loadOf file .set) (length buf)) ≡ 0 ∷ length file ∷ []) × (bufferAfter (loadOf file .set) buf ≡ file ++ drop (length file) buf)

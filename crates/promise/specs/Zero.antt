@@ -1,9 +1,25 @@
--- The set and the state with every field zero, written out in full: what a refused load or start carries. A zero point is kind 0, index 0.
+-- Values with every field zero, written out in full: what a refused load or start carries, and what stands in places beyond the counts. A zero point
+-- is kind 0, index 0.
 -- Assumes nothing.
 use lib.ListN.{replicate}
 use Rattle.scan.specs.declared.set.Kind.the-variants.{Sensor}
+use Rattle.scan.specs.declared.set.ReadPoint.{ReadPoint}
+use Rattle.scan.specs.declared.set.OutputPoint.{OutputPoint}
+use Rattle.scan.specs.declared.set.Constraint.{Constraint}
 use Rattle.scan.specs.declared.set.Set.{Set}
 use Rattle.scan.specs.declared.set.State.{State}
+
+-- a read point: a sensor without a name
+abbrev pub allZeroRead : ReadPoint
+allZeroRead = record { kind = Sensor; name = replicate 8 0 }
+
+-- an output without a name
+abbrev pub allZeroOutput : OutputPoint
+allZeroOutput = record { name = replicate 8 0 }
+
+-- a constraint without literals
+abbrev pub allZeroConstraint : Constraint
+allZeroConstraint = record { «read_plain» = 0; «read_negated» = 0; «out_plain» = 0; «out_negated» = 0; ranks = replicate 12 0 }
 
 -- no read points, outputs or constraints, and zeros in every place
 abbrev pub allZeroSet : Set
@@ -11,9 +27,9 @@ allZeroSet = record {
   r = 0;
   n = 0;
   m = 0;
-  reads = replicate 16 (record { kind = Sensor; name = replicate 8 0 });
-  outputs = replicate 12 (record { name = replicate 8 0 });
-  constraints = replicate 64 (record { «read_plain» = 0; «read_negated» = 0; «out_plain» = 0; «out_negated» = 0; ranks = replicate 12 0 });
+  reads = replicate 16 allZeroRead;
+  outputs = replicate 12 allZeroOutput;
+  constraints = replicate 64 allZeroConstraint;
 }
 
 -- that set, and both pasts 0
