@@ -82,7 +82,8 @@ answers : (st : State) (present request : ℕ) → StateAllowed st → SensorAll
 answers st present request a b c =
     ⊎-elim
     (λ x. inl (
-      sends-due (st .set) (a .0) (wordOf st present) request (scanOf st present request .answer) (told-due (st .set) (a .0) (wordOf st present) request c (passesDue (st .set) (wordOf st present) request, x .0 .here) (scanOf st present request .answer)
+      sends-due (st .set) (a .0) (wordOf st present) request c (scanOf st present request .answer)
+          (told-due (st .set) (a .0) (wordOf st present) request c (passesDue (st .set) (wordOf st present) request, x .0 .here) (scanOf st present request .answer)
           (ap (λ (y : Scanned). scanTold (y .answer)) (x .1))),
       ap (λ (y : Scanned). y .state) (x .1),
     ))

@@ -15,6 +15,7 @@ use Rattle.machine.specs.declared.machine.ScanAnswer.{ScanAnswer}
 use Rattle.scan.specs.Shape.{wellFormed}
 use Rattle.scan.specs.Holds.{unheldCount}
 use Rattle.scan.specs.Walk.{after, passesDue, vectorDue}
+use Rattle.scan.proofs.PassLaws.{after-lt}
 use Rattle.machine.specs.Machine.{sensorOk, requestOk}
 use Rattle.machine.specs.Told.{scanTold}
 use Rattle.machine.specs.History.{Call, readAfter, run, runState, followed, stateAfter, pastSensor, pastOutput, Sends, Right, AllRight}
@@ -53,13 +54,14 @@ accepted-enough s room e =
     never q = let z : _≡_ {A = ℕ} 0 1 = cc in omega arith
 
 -- what a scan sends, in the terms of document 01
-pub sends-due : (s : Set) → wellFormed s ≡ true → (w request : ℕ) (a : ScanAnswer) → Sends s w request a → SendsDue s w request a
+pub sends-due : (s : Set) → wellFormed s ≡ true → (w request : ℕ) → RequestAllowed s request → (a : ScanAnswer) → Sends s w request a → SendsDue s w request a
 unfolding vectorDue
-sends-due s ok w request a r = record {
+sends-due s ok w request h a r = record {
   answers = r .answers;
   vector = refl;
   safe = safe-iff s ok w (after s w request (passesDue s w request)) .0 (r .first-safe .here);
   first = λ j l x. clash (safe-iff s ok w (after s w request j) .1 x) (r .first-safe .before j l);
+  fits = after-lt s w ok request h (passesDue s w request);
   few = (unheldCount s w, holds-mean s ok w .f-counts, r .within);
   untouched = (λ e. safe-iff s ok w request .0 (r .untouched .0 e), λ x. r .untouched .1 (safe-iff s ok w request .1 x));
 }
@@ -92,7 +94,7 @@ module _ (s : Set) (ok : wellFormed s ≡ true) (before : List Call) (c : Call) 
       λ t. by-call (λ n. apart 31 32 [] [] refl (sym (told-31 n) ∙ t)) (λ y n. (y, n)) (λ y. apart 0 32 _ [] refl (sym (told-0 y .answers) ∙ t)),
       λ x. told-32 (x .0) (x .1),
     );
-    sends = λ y. sends-due s ok (readAfter s before c) (c .request) a (told-0 y);
+    sends = λ y. sends-due s ok (readAfter s before c) (c .request) (y .1) a (told-0 y);
     reads = reads-of-list s before c;
   }
 

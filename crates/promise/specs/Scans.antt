@@ -28,6 +28,8 @@ pub record SendsDue (s : Set) (w request : ℕ) (a : ScanAnswer) : Type 0 where
   pub vector : vectorDue s w request ≡ after s w request (passesDue s w request)
   pub safe : Safe s w (vectorDue s w request)
   pub first : (j : ℕ) → j < passesDue s w request → ¬ Safe s w (after s w request j)
+  -- it has bits at outputs only
+  pub fits : vectorDue s w request < 2 ^ s .n
   -- at most 2 ^ f - 1 passes, f being the number of outputs that no simple constraint holds in that scan
   pub few : (f : ℕ) × IsUnheldCount s w f × (passesDue s w request ≤ 2 ^ f - 1)
   -- it is the request untouched exactly when the request makes no constraint true
