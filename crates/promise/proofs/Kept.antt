@@ -11,7 +11,7 @@ use Rattle.words.proofs.BoolLaws.{by-test}
 use Rattle.scan.specs.declared.set.Set.{Set}
 use Rattle.scan.specs.declared.set.State.{State}
 use Rattle.machine.specs.declared.machine.Scanned.{Scanned}
-use Rattle.scan.specs.Set.{zeroSet, stateOf}
+use Rattle.scan.specs.Set.{zeroSet}
 use Rattle.scan.specs.Shape.{wellFormed}
 use Rattle.machine.specs.Machine.{scanOf}
 use Rattle.scan.specs.Walk.{passesDue}
@@ -141,7 +141,6 @@ meanings s ok = record {
   holds = holds-mean s ok;
   pass = pass-means s ok;
   walk = walk-means s ok;
-  reads = λ output sensor. reads-mean (stateOf s output sensor);
   names = names-mean s ok;
   places = places-mean s ok;
 }
@@ -153,6 +152,7 @@ promise = record {
   demand-2 = demand-2;
   demand-3 = demand-3;
   meanings = meanings;
+  reads = reads-mean;
   name-bytes = name-bytes-iff;
   files = file-says;
   lone-ranks = lone-ranks-unread;

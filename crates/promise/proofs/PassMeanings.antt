@@ -144,7 +144,6 @@ module _ (s : Set) (ok : wellFormed s ≡ true) (w : ℕ) where
   walk-means request = record {
     starts = refl;
     goes-on = λ k. refl;
-    reaches = ends-iff request;
     due = λ fits k here before.
         let first : FirstSafe s w request k = record {
           here = safe-iff s ok w (after s w request k) .1 here;

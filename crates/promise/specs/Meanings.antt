@@ -1,5 +1,5 @@
 -- What the demands speak of means what document 01 says: on the left a definition that the code meets, on the right document 01's sentence in
--- the terms of specs/Terms. Everything here is said of a well-formed set.
+-- the terms of specs/Terms. `Meanings` is said of every well-formed set, `ReadsMean` of every state, `NameBytesMean` of any bytes.
 -- Assumes nothing.
 use mathlib.Core.Path.{_≡_}
 use mathlib.Core.Bool.{true}
@@ -10,17 +10,16 @@ use lib.ListN.{length, replicate}
 use Rattle.scan.specs.declared.set.Constraint.{Constraint}
 use Rattle.scan.specs.declared.set.Set.{Set}
 use Rattle.scan.specs.declared.set.State.{State}
-use Rattle.scan.specs.Set.{readPoint, outputPoint, constraint, kind, rank, stateOf}
+use Rattle.scan.specs.Set.{readPoint, outputPoint, constraint, kind, rank}
 use Rattle.scan.specs.Names.{allNameBytes}
 use Rattle.scan.specs.Constraint.{simple, combined, trueAt, safe}
 use Rattle.scan.specs.Holds.{F0, F1, unheldCount, startVector}
 use Rattle.scan.specs.Pass.{pass}
-use Rattle.scan.specs.Walk.{after, Reaches, passesDue, vectorDue}
+use Rattle.scan.specs.Walk.{after, passesDue, vectorDue}
 use Rattle.machine.specs.Machine.{scanOf}
 use Rattle.verdict.specs.Judge.{judgeOf}
 use Rattle.promise.specs.Zero.{allZeroRead, allZeroOutput, allZeroConstraint}
-use Rattle.promise.specs.Terms.{Bit, NamesOutput, Simple, Combined, TrueAt, Safe, HeldOff, HeldOn, IsUnheldCount, Flipped, BitRead}
-use Rattle.promise.specs.Verdicts.{EndsSafe}
+use Rattle.promise.specs.Terms.{Bit, NamesOutput, Simple, Combined, TrueAt, Safe, HeldOff, HeldOn, IsUnheldCount, Flipped, BitRead, stateWith}
 use Rattle.promise.specs.Allowed.{wordOf, readName, outputName, IsName, NameBytes}
 
 -- ---- constraints
@@ -59,17 +58,9 @@ pub record WalkMeans (s : Set) (w request : ℕ) : Type 0 where
   -- the start vector, then one pass after another
   pub starts : after s w request zero ≡ startVector s w request
   pub goes-on : (k : ℕ) → after s w request (suc k) ≡ pass s w (after s w request k)
-  -- the walk reaches a safe vector: one of its vectors is safe
-  pub reaches : Reaches s w request ↔ EndsSafe s w request
   -- the vector due is the walk's first safe one, and the passes are those made before it
   pub due : request < 2 ^ s .n → (k : ℕ) → Safe s w (after s w request k) → ((j : ℕ) → j < k → ¬ Safe s w (after s w request j))
       → (vectorDue s w request ≡ after s w request k) × (passesDue s w request ≡ k)
-
--- ---- the read word of a state: the sensor word, with past points filled from the state
-
-pub record ReadsMean (st : State) (present : ℕ) : Type 0 where
-  pub point : (k : ℕ) → k < st .set .r → Bit k (wordOf st present) ↔ BitRead (kind (st .set) k) (st .«past_output») (st .«past_sensor») present k
-  pub above : (k : ℕ) → st .set .r ≤ k → ¬ Bit k (wordOf st present)
 
 -- ---- names
 
@@ -97,16 +88,21 @@ pub record PlacesMean (s : Set) : Type 0 where
   pub constraint-beyond : (i : ℕ) → s .m ≤ i → i < 64 → constraint s i ≡ allZeroConstraint
   pub rank-unnamed : (i : ℕ) → i < s .m → (k : ℕ) → ¬ NamesOutput (constraint s i) k → rank (constraint s i) k ≡ 0
 
--- ---- all of them
+-- ---- all of these
 
 pub record Meanings (s : Set) : Type 0 where
   pub constraints : ConstraintsMean s
   pub holds : (w : ℕ) → HoldsMean s w
   pub pass : (w v k : ℕ) → PassMeans s w v k
   pub walk : (w request : ℕ) → WalkMeans s w request
-  pub reads : (output sensor present : ℕ) → ReadsMean (stateOf s output sensor) present
   pub names : NamesMean s
   pub places : PlacesMean s
+
+-- ---- the read word of a state: the sensor word, with past points filled from the state
+
+pub record ReadsMean (st : State) (present : ℕ) : Type 0 where
+  pub point : (k : ℕ) → k < st .set .r → Bit k (wordOf st present) ↔ BitRead (kind (st .set) k) (st .«past_output») (st .«past_sensor») present k
+  pub above : (k : ℕ) → st .set .r ≤ k → ¬ Bit k (wordOf st present)
 
 -- ---- a lone output's rank is kept and never read
 
@@ -129,7 +125,7 @@ pub record SameButLoneRanks (s t : Set) : Type 0 where
 -- such sets have the same verdicts, and scans of them the same answers
 pub record LoneRanksUnread (s t : Set) : Type 0 where
   pub verdict : (room : ℕ) → judgeOf s room ≡ judgeOf t room
-  pub scan : (output sensor present request : ℕ) → scanOf (stateOf s output sensor) present request .answer ≡ scanOf (stateOf t output sensor) present request .answer
+  pub scan : (output sensor present request : ℕ) → scanOf (stateWith s output sensor) present request .answer ≡ scanOf (stateWith t output sensor) present request .answer
 
 -- ---- name bytes, of any bytes
 

@@ -32,12 +32,13 @@ use Rattle.promise.specs.Column.{loadTests}
 use Rattle.writer.specs.Write.{writeOf, writeAnswer, bufferAfter}
 use Rattle.loader.specs.Told.{loadTold}
 use Rattle.writer.specs.Told.{writeTold}
+use Rattle.promise.specs.Terms.{stateWith}
 use Rattle.promise.specs.Zero.{allZeroSet, allZeroState}
 use Rattle.promise.specs.Allowed.{StateAllowed, SensorAllowed, RequestAllowed, wordOf, readName, outputName, LengthAllowed, NameBytes, NoPoint}
-use Rattle.promise.specs.Meanings.{Meanings, NameBytesMean, SameButLoneRanks, LoneRanksUnread}
+use Rattle.promise.specs.Meanings.{Meanings, ReadsMean, NameBytesMean, SameButLoneRanks, LoneRanksUnread}
 use Rattle.promise.specs.FileSays.{FileSays}
 use Rattle.promise.specs.Verdicts.{EndsSafe, GoodWord, BadWord, FirstNoVector, FirstNoEnd}
-use Rattle.promise.specs.Scans.{stateWith, SendsDue, EveryRight, StateOfList}
+use Rattle.promise.specs.Scans.{SendsDue, EveryRight, StateOfList}
 use Rattle.promise.specs.NeverTold.{NeverTold}
 
 -- ---- demand 1: what is turned down, by which number, and what is left as it was
@@ -191,8 +192,11 @@ pub record Promise : Type 0 where
   pub demand-1 : Demand1
   pub demand-2 : Demand2
   pub demand-3 : Demand3
-  -- constraints, holds, passes, walks, read words and names, bit by bit and byte by byte
+  -- constraints, holds, passes, walks, names and places, bit by bit and byte by byte
   pub meanings : (s : Set) → wellFormed s ≡ true → Meanings s
+  -- the read word of a scan, bit by bit
+  pub reads : (st : State) (present : ℕ) → ReadsMean st present
+  -- a name byte is 0x21 to 0x7E
   pub name-bytes : (bytes : List ℕ) → NameBytesMean bytes
   -- what a file says
   pub files : (file : List ℕ) → Bytes file → loadTold (loadOf file .answer) ≡ 0 ∷ [] → FileSays file (loadOf file .set)

@@ -12,12 +12,8 @@ use Rattle.scan.specs.Walk.{after, passesDue, vectorDue}
 use Rattle.machine.specs.declared.machine.ScanAnswer.{ScanAnswer}
 use Rattle.machine.specs.Told.{scanTold}
 use Rattle.machine.specs.History.{Call, readAfter}
-use Rattle.promise.specs.Terms.{Bit, Safe, IsUnheldCount, BitRead}
+use Rattle.promise.specs.Terms.{Bit, Safe, IsUnheldCount, BitRead, stateWith}
 use Rattle.promise.specs.Allowed.{SensorAllowed, RequestAllowed}
-
--- a state, written out in full
-abbrev pub stateWith : Set → ℕ → ℕ → State
-stateWith s output sensor = record { set = s; «past_output» = output; «past_sensor» = sensor }
 
 -- ---- one scan
 

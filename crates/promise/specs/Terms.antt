@@ -10,6 +10,7 @@ use Rattle.scan.specs.declared.set.Kind.{Kind}
 use Rattle.scan.specs.declared.set.Kind.the-variants.{Sensor, PastOutput, PastSensor}
 use Rattle.scan.specs.declared.set.Constraint.{Constraint}
 use Rattle.scan.specs.declared.set.Set.{Set}
+use Rattle.scan.specs.declared.set.State.{State}
 use Rattle.scan.specs.Set.{constraint, rank}
 
 -- bit k of a word is set
@@ -85,3 +86,9 @@ abbrev pub BitRead : Kind → ℕ → ℕ → ℕ → ℕ → Type 0
 BitRead Sensor output sensor present k = Bit k present
 BitRead (PastOutput i) output sensor present k = Bit i output
 BitRead (PastSensor i) output sensor present k = Bit i sensor
+
+-- ---- a state
+
+-- a set, a past output word and a past sensor word
+abbrev pub stateWith : Set → ℕ → ℕ → State
+stateWith s output sensor = record { set = s; «past_output» = output; «past_sensor» = sensor }
