@@ -106,8 +106,12 @@ module _ (s : Set) (ok : wellFormed s ≡ true) (w : ℕ) where
     flipped-lt : Flipped s w v k → k < s .n
     flipped-lt a = named-lt (a .0) (a .1) k (a .4 .0)
 
+    -- a pass changes an output exactly where the test passes
+    passed : k < s .n → bit k (pass s w v) ≡ xorb (bit k v) flipTest
+    passed l = pass-bit s w v k l
+
     changes : k < s .n → flipTest ≡ true → bit k (pass s w v) ≡ not (bit k v)
-    changes l e = pass-bit s w v k l ∙ ap (xorb (bit k v)) e ∙ xor-true (bit k v)
+    changes l e = passed l ∙ ap (xorb (bit k v)) e ∙ xor-true (bit k v)
       where
         xor-true : (b : Bool) → xorb b true ≡ not b
         xor-true true = refl
@@ -121,7 +125,7 @@ module _ (s : Set) (ok : wellFormed s ≡ true) (w : ℕ) where
         xor-false false = refl
 
         go : Dec (k < s .n) → bit k (pass s w v) ≡ bit k v
-        go (yes l) = pass-bit s w v k l ∙ ap (xorb (bit k v)) (by-test flipTest (λ e. absurd (n (flipped-iff l .0 e))) (λ e. e)) ∙ xor-false (bit k v)
+        go (yes l) = passed l ∙ ap (xorb (bit k v)) (by-test flipTest (λ e. absurd (n (flipped-iff l .0 e))) (λ e. e)) ∙ xor-false (bit k v)
         go (no l) = sym (pass-agrees s w v k (bit-above (s .n) k (unheld s w) (unheld-lt s w) (omega arith)))
 
     pub pass-means : PassMeans s w v k
