@@ -16,7 +16,7 @@ use Rattle.scan.specs.Shape.{wellFormed}
 use Rattle.machine.specs.Machine.{scanOf}
 use Rattle.scan.specs.Walk.{passesDue}
 use Rattle.machine.specs.Told.{scanTold}
-use Rattle.machine.proofs.MachineLaws.{sends-due as told-due, scan-answers, scan-keeps-set}
+use Rattle.machine.proofs.MachineLaws.{sends-due, scan-answers, scan-keeps-set}
 use Rattle.verdict.specs.Judge.{judgeOf}
 use Rattle.verdict.proofs.JudgeLaws.{scratch-is}
 use Rattle.start.specs.Start.{startOf}
@@ -46,7 +46,7 @@ use Rattle.promise.proofs.PlaceMeanings.{places-mean}
 use Rattle.promise.proofs.LoneRankMeanings.{lone-ranks-unread}
 use Rattle.promise.proofs.FilesSay.{file-says}
 use Rattle.promise.proofs.ExactVerdicts.{told-accepted, exact-verdict, exact-start}
-use Rattle.promise.proofs.ScanLists.{sends-due, right-scans}
+use Rattle.promise.proofs.ScanLists.{sends-mean, right-scans}
 
 -- ---- demand 1
 
@@ -82,8 +82,8 @@ answers : (st : State) (present request : ℕ) → StateAllowed st → SensorAll
 answers st present request a b c =
     ⊎-elim
     (λ x. inl (
-      sends-due (st .set) (a .0) (wordOf st present) request c (scanOf st present request .answer)
-          (told-due (st .set) (a .0) (wordOf st present) request c (passesDue (st .set) (wordOf st present) request, x .0 .here) (scanOf st present request .answer)
+      sends-mean (st .set) (a .0) (wordOf st present) request c (scanOf st present request .answer)
+          (sends-due (st .set) (a .0) (wordOf st present) request c (passesDue (st .set) (wordOf st present) request, x .0 .here) (scanOf st present request .answer)
           (ap (λ (y : Scanned). scanTold (y .answer)) (x .1))),
       ap (λ (y : Scanned). y .state) (x .1),
     ))

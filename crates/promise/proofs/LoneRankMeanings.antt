@@ -10,15 +10,14 @@ use Rattle.scan.specs.declared.set.ReadPoint.{ReadPoint}
 use Rattle.scan.specs.declared.set.Kind.the-variants.{Sensor}
 use Rattle.scan.specs.declared.set.Constraint.{Constraint}
 use Rattle.scan.specs.declared.set.Set.{Set}
-use Rattle.scan.specs.Set.{mostReads, mostConstraints, noRead, noConstraint, zeroConstraint, readPoint, kind, constraint}
+use Rattle.scan.specs.Set.{mostReads, mostConstraints, noRead, noConstraint, readPoint, kind, constraint}
 use Rattle.scan.specs.Shape.{wellFormed}
-use Rattle.scan.proofs.ShapeLaws.{beyond-zero, points-formed}
 use Rattle.scan.proofs.LoneRanks.{SameButLone, AlikeButLone}
 use Rattle.machine.proofs.ScanAlike.{scan-alike}
 use Rattle.verdict.proofs.JudgeAlike.{judge-alike}
-use Rattle.setfile.proofs.ZeroPlaces.{read-blank, constraint-blank}
 use Rattle.promise.specs.Meanings.{SameButLoneRanks, LoneRanksUnread}
 use Rattle.promise.proofs.ConstraintMeanings.{combined-iff}
+use Rattle.promise.proofs.PlaceMeanings.{places-mean}
 
 -- what stands beyond the counts of a well-formed set, by the place alone
 module _ (s : Set) (ok : wellFormed s ≡ true) where
@@ -27,15 +26,12 @@ module _ (s : Set) (ok : wellFormed s ≡ true) where
   read-beyond k l = go (decLt k mostReads)
     where
       go : Dec (k < mostReads) → readPoint (s .reads) k .kind ≡ Sensor
-      go (yes h) = ap (λ (p : ReadPoint). p .kind) (read-blank (readPoint (s .reads) k) (points-formed s ok .read-zero k l h))
-      go (no h) = let long = points-formed s ok .reads-long in ap (λ (p : ReadPoint). p .kind) (List·getD-eq-default (s .reads) noRead {n = k} (omega arith))
-
-  constraint-below : (i : ℕ) → s .m ≤ i → i < mostConstraints → constraint s i ≡ zeroConstraint
-  constraint-below i l h = constraint-blank (constraint s i) (beyond-zero s ok i l h)
+      go (yes h) = ap (λ (p : ReadPoint). p .kind) (places-mean s ok .read-beyond k l h)
+      go (no h) = let long = places-mean s ok .places .0 in ap (λ (p : ReadPoint). p .kind) (List·getD-eq-default (s .reads) noRead {n = k} (omega arith))
 
   constraint-past : (i : ℕ) → mostConstraints ≤ i → constraint s i ≡ noConstraint
   unfolding constraint
-  constraint-past i h = let long = points-formed s ok .constraints-long in List·getD-eq-default (s .constraints) noConstraint {n = i} (omega arith)
+  constraint-past i h = let long = places-mean s ok .places .2 in List·getD-eq-default (s .constraints) noConstraint {n = i} (omega arith)
 
 module _ (s t : Set) (formed-s : wellFormed s ≡ true) (formed-t : wellFormed t ≡ true) (a : SameButLoneRanks s t) where
   kinds-alike : (k : ℕ) → kind s k ≡ kind t k
@@ -49,7 +45,7 @@ module _ (s t : Set) (formed-s : wellFormed s ≡ true) (formed-t : wellFormed t
   beyond-alike i l = let same = a .m in go (decLt i mostConstraints) (omega arith)
     where
       go : Dec (i < mostConstraints) → t .m ≤ i → constraint s i ≡ constraint t i
-      go (yes h) lt = constraint-below s formed-s i l h ∙ sym (constraint-below t formed-t i lt h)
+      go (yes h) lt = places-mean s formed-s .constraint-beyond i l h ∙ sym (places-mean t formed-t .constraint-beyond i lt h)
       go (no h) lt = constraint-past s formed-s i (omega arith) ∙ sym (constraint-past t formed-t i (omega arith))
 
   one-alike : (i : ℕ) → SameButLone (constraint s i) (constraint t i)

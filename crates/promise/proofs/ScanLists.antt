@@ -54,9 +54,9 @@ accepted-enough s room e =
     never q = let z : _≡_ {A = ℕ} 0 1 = cc in omega arith
 
 -- what a scan sends, in the terms of document 01
-pub sends-due : (s : Set) → wellFormed s ≡ true → (w request : ℕ) → RequestAllowed s request → (a : ScanAnswer) → Sends s w request a → SendsDue s w request a
+pub sends-mean : (s : Set) → wellFormed s ≡ true → (w request : ℕ) → RequestAllowed s request → (a : ScanAnswer) → Sends s w request a → SendsDue s w request a
 unfolding vectorDue
-sends-due s ok w request h a r = record {
+sends-mean s ok w request h a r = record {
   answers = r .answers;
   vector = refl;
   safe = safe-iff s ok w (after s w request (passesDue s w request)) .0 (r .first-safe .here);
@@ -94,7 +94,7 @@ module _ (s : Set) (ok : wellFormed s ≡ true) (before : List Call) (c : Call) 
       λ t. by-call (λ n. apart 31 32 [] [] refl (sym (told-31 n) ∙ t)) (λ y n. (y, n)) (λ y. apart 0 32 _ [] refl (sym (told-0 y .answers) ∙ t)),
       λ x. told-32 (x .0) (x .1),
     );
-    sends = λ y. sends-due s ok (readAfter s before c) (c .request) (y .1) a (told-0 y);
+    sends = λ y. sends-mean s ok (readAfter s before c) (c .request) (y .1) a (told-0 y);
     reads = reads-of-list s before c;
   }
 

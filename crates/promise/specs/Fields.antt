@@ -28,7 +28,7 @@ fieldsFrom (suc most) at left =
     let whole = field at (getD left 0 0) (drop 3 (take size left)) more in
     cond (eqb (length left) 0) (ends at) (cond (ltb (length left) size) (cut at) whole)
 
--- a file; a field has three bytes at least, so that there are fewer fields than bytes
+-- a file; a field has three bytes at least, so that so many are enough
 unfoldable pub inFields : List ℕ → Fields
 inFields file = fieldsFrom (suc (length file)) 0 file
 

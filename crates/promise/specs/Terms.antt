@@ -1,5 +1,6 @@
--- Document 01's terms, in bits and numbers: constraints, holds, passes and read words. No code computes these, and none of them is told by a
--- definition that the code meets; specs/Meanings says that what the demands speak of is what stands here.
+-- Document 01's terms, in bits and numbers: constraints, holds, passes and read words. No code computes these, and they are told by no definition that
+-- the code meets but the parts of a set by number (`constraint`, `rank`), and what these are specs/FileSays tells from the bytes of a file.
+-- specs/Meanings says that what the demands speak of is what stands here.
 -- Assumes nothing.
 use mathlib.Core.Path.{_≡_}
 use mathlib.Core.Bool.{Bool, true}
