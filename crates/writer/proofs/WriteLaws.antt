@@ -11,7 +11,7 @@ use lib.ListN.{length, getD, take, drop, set, length-append, length-take, length
 use lib.Seq.{take-suc, set-split, sets-eq, take-at, drop-append-add, drop-drop, length-take-le}
 use lib.Dec.{leb, ltb}
 use borrow.Author.Tests.{lt-ltb, le-ltb, le-leb, lt-leb}
-use Rattle.words.specs.Loop.{first}
+use Rattle.words.specs.Loop.{first, joined}
 use Rattle.scan.specs.declared.set.Kind.{Kind}
 use Rattle.scan.specs.declared.set.Kind.the-variants.{Sensor, PastOutput, PastSensor}
 use Rattle.scan.specs.declared.set.ReadPoint.{ReadPoint}
@@ -21,7 +21,7 @@ use Rattle.scan.specs.declared.set.Set.{Set}
 use Rattle.scan.specs.Set.{noRead, noOutput, noConstraint}
 use Rattle.scan.specs.Names.{nameBytes}
 use Rattle.scan.specs.Shape.{wellFormed}
-use Rattle.writer.specs.Write.{fieldOf, kindBytes, readBody, outputBody, joined, literalBody, fieldsOf, writeOf, writeAnswer, bufferAfter}
+use Rattle.writer.specs.Write.{fieldOf, kindBytes, readBody, outputBody, literalBody, fieldsOf, writeOf, writeAnswer, bufferAfter}
 use Rattle.writer.specs.way.Write.{readFields, outputFields, constraintFields, putAt, Put}
 use Rattle.writer.specs.declared.writer.Written.the-variants.{Wrote, BadSet, Short}
 
