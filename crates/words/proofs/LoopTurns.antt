@@ -1,13 +1,14 @@
 -- A turn of a loop that counts up, at the code's `n + 1`: what it does to masks joined, to a word built bit by bit, to a search, and to the
--- invariants of loops that test all and that look for the first.
+-- invariants of loops that test all and that look for the first; parts of a list, one behind the other.
 -- Assumes nothing.
 use mathlib.Core.Path.{_≡_, refl, sym, ap, ap₂, _∙_}
 use mathlib.Core.Bool.{Bool, true, false, _||_, _&&_, cond}
+use mathlib.Core.List.{List, [], _++_}
 use Prim.Native.Nat.{ℕ, _+_, _*_, _%_, _^_, _≤_, _<_}
 use native.Mathlib.Numerals.{add-one}
 use lib.Bits.{bitOr}
 use native.Mathlib.Omega.{arith}
-use Rattle.words.specs.Loop.{gather, some, all, first, bitIf, word}
+use Rattle.words.specs.Loop.{gather, some, all, first, bitIf, word, joined}
 use Rattle.words.proofs.ShiftLaws.{one-shl}
 use Rattle.words.proofs.LoopLaws.{some-false-at, first-is, first-none}
 
@@ -106,3 +107,14 @@ module _ (n : ℕ) (p : ℕ → Bool) where
 
   pub missed-all : (k : ℕ) → Missed n p k → n ≤ k → n ≡ first n p
   missed-all k i h = sym (first-none n p (λ j l. some-false-at k p (i .1) j (omega arith)))
+
+-- ---- parts, one behind the other
+
+-- `whole k` is the first k parts, `more k` the part behind them
+pub record Grows {A : Type 0} (whole more : ℕ → List A) (n : ℕ) : Type 0 where
+  pub none : whole 0 ≡ []
+  pub one : (k : ℕ) → k < n → whole (k + 1) ≡ whole k ++ more k
+
+pub joined-grow : {A : Type 0} (f : ℕ → List A) (n : ℕ) → Grows (λ k. joined k f) f n
+unfolding joined
+joined-grow f n = record { none = refl; one = λ k h. ap (λ (j : ℕ). joined j f) (add-one k) }

@@ -11,7 +11,8 @@ use lib.ListN.{length, getD, take, drop, set, length-append, length-take, length
 use lib.Seq.{take-suc, set-split, sets-eq, take-at, drop-append-add, drop-drop, length-take-le}
 use lib.Dec.{leb, ltb}
 use borrow.Author.Tests.{lt-ltb, le-ltb, le-leb, lt-leb}
-use Rattle.words.specs.Loop.{first, joined}
+use Rattle.words.specs.Loop.{first}
+use Rattle.words.proofs.LoopTurns.{Grows}
 use Rattle.scan.specs.declared.set.Kind.{Kind}
 use Rattle.scan.specs.declared.set.Kind.the-variants.{Sensor, PastOutput, PastSensor}
 use Rattle.scan.specs.declared.set.ReadPoint.{ReadPoint}
@@ -137,19 +138,10 @@ module _ {A : Type 0} (tag : ℕ) (body : A → List ℕ) where
 
 -- ---- loops that put one part behind the other
 
--- `whole k` is the first k parts, `more k` the part behind them
-pub record Grows (whole more : ℕ → List ℕ) (n : ℕ) : Type 0 where
-  pub none : whole 0 ≡ []
-  pub one : (k : ℕ) → k < n → whole (k + 1) ≡ whole k ++ more k
-
 pub fields-grow : {A : Type 0} (tag : ℕ) (body : A → List ℕ) (xs : List A) (n : ℕ) (d : A) → n ≤ length xs
     → Grows (λ k. fieldsOf tag body (take k xs)) (λ k. fieldOf tag (body (getD xs k d))) n
 unfolding fieldsOf
 fields-grow tag body xs n d few = record { none = refl; one = λ k h. fields-more tag body xs k d (omega arith) }
-
-pub joined-grow : (f : ℕ → List ℕ) (n : ℕ) → Grows (λ k. joined k f) f n
-unfolding joined
-joined-grow f n = record { none = refl; one = λ k h. ap (λ (j : ℕ). joined j f) (add-one k) }
 
 -- the invariant of a loop that puts parts: the first k are in place
 abbrev pub Puts : (ℕ → List ℕ) → ℕ → List ℕ → ℕ → List ℕ → ℕ → ℕ → Type 0

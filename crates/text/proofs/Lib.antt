@@ -1,0 +1,4 @@
+pub mod PlaceLaws
+pub mod LiteralLaws
+pub mod LinesLaws
+pub mod TextLaws

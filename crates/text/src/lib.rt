@@ -1,0 +1,9 @@
+// The text of a set: one thing on a line, names to the byte.
+mod place; // bytes and words into a buffer, as far as it goes
+mod literal; // the literals of a constraint
+mod lines; // a line for each point and constraint
+mod printing; // the whole text into a lent buffer
+
+pub use printing::TextPut;
+pub use printing::number_of;
+pub use printing::put_text;
