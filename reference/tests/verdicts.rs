@@ -4,7 +4,6 @@ use reference::chance::Chance;
 use reference::filter::{holds, is_safe, start_vector, walk, Walk};
 use reference::machine::{scan, start, ScanRefusal, State};
 use reference::making::{scans, set, Recipe};
-use reference::records::{pair_bytes, pairs, Pair};
 use reference::set::{bits, word, Kind, Set};
 use reference::verdict::{judge, judge_plainly, Verdict};
 
@@ -151,17 +150,4 @@ fn long_walks_reach_the_bound() {
         let sent = scan(&mut state, 0, request).map(|s| (s.vector, s.passes));
         assert_eq!(sent, Ok((2, passes)));
     }
-}
-
-#[test]
-fn records_are_read_back() {
-    let pair = |file: &[u8], scans: &[(u32, u16)]| Pair {
-        file: file.to_vec(),
-        scans: scans.to_vec(),
-    };
-    let two = [pair(b"", &[]), pair(b"abc", &[(0x8000_0001, 0xFFFE)])];
-    let bytes: Vec<u8> = two.iter().filter_map(pair_bytes).flatten().collect();
-    assert_eq!(pairs(&bytes), Some(two.to_vec()));
-    assert_eq!(pairs(&bytes[..bytes.len() - 1]), None);
-    assert_eq!(pairs(&[0, 0]), None);
 }
