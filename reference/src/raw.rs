@@ -33,11 +33,37 @@ pub const PLAIN_OUTPUTS: usize = 8;
 pub const NEGATED_OUTPUTS: usize = 10;
 pub const RANKS: usize = 12;
 
+/// How the bytes of a set come through being written down and loaded.
+#[derive(Clone, Debug, PartialEq, Eq)]
+pub enum Form {
+    WellFormed(Set),
+    /// A count is larger than there are places.
+    NoPlaces,
+    /// The file is refused, by this number.
+    Refused(u8),
+    /// The file loads to another set.
+    Lost,
+}
+
+/// Writes a set down, loads it and compares.
+pub fn form(raw: &[u8]) -> Form {
+    let Some(described) = described(raw) else {
+        return Form::NoPlaces;
+    };
+    match load(&write(&described)) {
+        Err(refusal) => Form::Refused(refusal.number),
+        Ok(set) if laid_out(&set) == kept(raw) => Form::WellFormed(set),
+        Ok(_) => Form::Lost,
+    }
+}
+
 /// The set that lies here if it is well formed; nothing is 20, and 30 of a
 /// scan.
 pub fn well_formed(raw: &[u8]) -> Option<Set> {
-    let set = load(&write(&described(raw)?)).ok()?;
-    (laid_out(&set) == kept(raw)).then_some(set)
+    match form(raw) {
+        Form::WellFormed(set) => Some(set),
+        _ => None,
+    }
 }
 
 /// The bytes with what is not kept made zero: an index beside kind 0, and a

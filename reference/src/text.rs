@@ -156,7 +156,8 @@ mod tests {
             "past and of on",
             "past # of 07",
             "sensor 007",
-            "never on on and and off and # on and 007 off and never on rank 7 and 07 on rank 70 and 7 off rank 0",
+            "never on on and and off and # on and 007 off \
+                and never on rank 7 and 07 on rank 70 and 7 off rank 0",
             "end",
             "",
         ];

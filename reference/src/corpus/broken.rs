@@ -129,12 +129,12 @@ fn bases(chance: &mut Chance) -> Vec<(Base, usize)> {
     middle.reads[1].kind = Kind::PastSensor(0);
     middle.reads[2].kind = Kind::PastOutput(3);
     middle.reads[5].kind = Kind::Sensor;
-    let sizes = [(p(), 2), (middle, 1)];
+    let sizes = [(p(), 3), (middle, 1)];
     let mut bases: Vec<(Base, usize)> = sizes
         .into_iter()
         .map(|(set, share)| (Base::new(set), share))
         .collect();
-    for (r, n, m, share) in [(16, 8, 62, 4), (12, 12, 2, 5), (0, 1, 0, 4)] {
+    for (r, n, m, share) in [(16, 8, 62, 5), (12, 12, 2, 5), (0, 1, 0, 4)] {
         let recipe = if m == 0 {
             Recipe::Planted
         } else {

@@ -101,7 +101,7 @@ pub fn cases() -> Vec<Case> {
     }
     let mut more = write(&longest(false));
     more.push(5);
-    cases.push(case(more, Vec::new()));
+    cases.push(case(more, scans()));
     cases.push(case(program_input(), Vec::new()));
     for tag in [3, 4, 5] {
         for end in [4095, 4096, 4097] {

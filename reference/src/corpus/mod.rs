@@ -9,6 +9,7 @@ pub mod long;
 pub mod names;
 pub mod sizes;
 pub mod states;
+pub mod texts;
 
 use crate::chance::Chance;
 use crate::records::Case;
@@ -21,6 +22,7 @@ pub fn corpus(seed: u64) -> Vec<Case> {
     cases.extend(files::cases(&mut Chance::new(seed)));
     cases.extend(counters::cases(&mut part(2)));
     cases.extend(long::cases());
+    cases.extend(texts::cases());
     cases.extend(states::long_lists(&mut part(3)));
     cases.extend(states::cases(&mut part(4)));
     cases.extend(names::cases(&mut part(5)));

@@ -1,14 +1,15 @@
 //! Buffers of many sizes: at and around what each operation needs.
 
-use super::counters::{counting, Counter};
+use super::counters::{counting, plain, Counter};
 use super::files::small_set;
+use super::texts::wordiest;
 use crate::chance::Chance;
 use crate::damage::P;
 use crate::file::{load, write};
 use crate::making::{set, Recipe};
 use crate::program::line;
 use crate::records::Case;
-use crate::set::{Kind, Set};
+use crate::set::{Kind, Point, Set};
 use crate::text::text;
 
 const SETS_EACH: usize = 11;
@@ -27,7 +28,7 @@ pub fn cases(chance: &mut Chance) -> Vec<Case> {
         let m = chance.between(0, 64);
         files.push(write(&set(chance, Recipe::Planted, 2, n, m)));
     }
-    files.push(write(&wordy(chance)));
+    files.push(write(&wordy()));
     let endless = Counter::plain(6).turning().constraints(0);
     files.push(write(&counting(&[Kind::Sensor], 6, endless)));
     files
@@ -39,15 +40,14 @@ pub fn cases(chance: &mut Chance) -> Vec<Case> {
         .collect()
 }
 
-/// A set with long names and as many constraints as there can be, with a text
-/// of tens of thousands of bytes, that is soon judged.
-fn wordy(chance: &mut Chance) -> Set {
-    let mut set = set(chance, Recipe::Clash, 4, 10, 62);
-    for (number, point) in set.reads.iter_mut().enumerate() {
-        point.name = format!("read...{number}").into_bytes();
-    }
-    for (number, name) in set.outputs.iter_mut().enumerate() {
-        *name = format!("output.{number}").into_bytes();
+/// Nearly the longest text there is; output 0 is held both ways at word 0, so
+/// that it is soon judged.
+fn wordy() -> Set {
+    let mut set = wordiest();
+    for (place, negated) in [(0, false), (63, true)] {
+        let reads = (0..12).map(|k| plain(Point::Read(k), true));
+        let output = plain(Point::Output(0), negated);
+        set.constraints[place].literals = reads.chain([output]).collect();
     }
     set
 }
