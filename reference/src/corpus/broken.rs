@@ -2,8 +2,10 @@
 //! broken in one place, clause by clause, at first and last places and right
 //! beyond the counts.
 
+use super::long::longest;
 use super::names::nearly;
 use super::states::pasts;
+use super::texts::wordy;
 use crate::chance::Chance;
 use crate::damage::P;
 use crate::file::load;
@@ -102,9 +104,10 @@ fn p() -> Set {
     load(&P).expect("P loads")
 }
 
-/// Well-formed sets of all recipes and of some sizes.
+/// Well-formed sets: P, two that are as full as can be, and some of all recipes.
 fn good(chance: &mut Chance) -> Vec<Base> {
-    let mut bases = vec![Base::new(p())];
+    let full = [p(), longest(0, true), wordy()];
+    let mut bases: Vec<Base> = full.into_iter().map(Base::new).collect();
     for recipe in [
         Recipe::Loose,
         Recipe::Bent,

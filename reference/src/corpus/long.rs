@@ -14,13 +14,13 @@ use crate::set::{Constraint, Kind, Literal, Point, ReadPoint, Set};
 /// The bytes of the longest good file.
 pub const LONGEST: usize = 3568;
 
-/// The word at which all constraints of the longest file have their read
-/// literals true.
+/// The read word of the longest files' constraints.
 const WORD: usize = 0x2B5D;
 
-/// 16 read points, 8 outputs and 64 constraints of 24 literals, all true at one
-/// read word alone. There vector k leads to k+1, to 64; or back to 0.
-fn longest(turns: bool) -> Set {
+/// 16 read points, 8 outputs and 64 constraints of 24 literals, whose read
+/// literals are true at one word alone. There vector k leads to k+1, to 64; or
+/// 63 leads back to 0.
+pub fn longest(word: usize, turns: bool) -> Set {
     let read = |k: usize| ReadPoint {
         kind: match k {
             9 => Kind::PastOutput(7),
@@ -30,21 +30,21 @@ fn longest(turns: bool) -> Set {
         },
         name: format!("read..{k:02}").into_bytes(),
     };
-    let step = |k: usize| (k, if turns { (k + 1) % 64 } else { k + 1 });
+    let step = |k: usize| leading(word, k, if turns { (k + 1) % 64 } else { k + 1 });
     Set {
         reads: (0..16).map(read).collect(),
         outputs: (0..8).map(|k| format!("output.{k}").into_bytes()).collect(),
-        constraints: (0..64).map(step).map(leading).collect(),
+        constraints: (0..64).map(step).collect(),
     }
 }
 
-/// The constraint that is true at the word and at one vector and leads to the
-/// other.
-fn leading((from, to): (usize, usize)) -> Constraint {
+/// The constraint that is true at a read word and a vector and leads from it to
+/// the other.
+fn leading(word: usize, from: usize, to: usize) -> Constraint {
     let bit = |word: usize, place: usize| (word >> place) % 2 == 1;
     let read = |place| Literal {
         point: Point::Read(place),
-        negated: !bit(WORD, place),
+        negated: !bit(word, place),
         rank: 0,
     };
     let output = |place| Literal {
@@ -60,7 +60,7 @@ fn leading((from, to): (usize, usize)) -> Constraint {
 /// The longest file without its end field, then a field that ends at an
 /// offset.
 fn full_then(tag: u8, end: usize) -> Vec<u8> {
-    let mut file = write(&longest(false));
+    let mut file = write(&longest(WORD, false));
     file.truncate(LONGEST - 3);
     field_to(&mut file, tag, end);
     file
@@ -97,9 +97,9 @@ pub fn cases() -> Vec<Case> {
     let case = |file: Vec<u8>, scans: Vec<(u32, u16)>| Case::File { file, scans };
     let mut cases = Vec::new();
     for turns in [false, true] {
-        cases.push(case(write(&longest(turns)), scans()));
+        cases.push(case(write(&longest(WORD, turns)), scans()));
     }
-    let mut more = write(&longest(false));
+    let mut more = write(&longest(WORD, false));
     more.push(5);
     cases.push(case(more, scans()));
     cases.push(case(program_input(), Vec::new()));
@@ -132,7 +132,7 @@ mod tests {
     fn the_longest_files() {
         let word = WORD as u32;
         for (turns, verdict) in [(false, Verdict::Accepted), (true, Verdict::NoEnd(word, 0))] {
-            let set = longest(turns);
+            let set = longest(WORD, turns);
             let file = write(&set);
             assert_eq!(file.len(), LONGEST);
             assert_eq!(judge(&set), verdict);

@@ -1,15 +1,16 @@
 //! Buffers of many sizes: at and around what each operation needs.
 
-use super::counters::{counting, plain, Counter};
+use super::counters::{counting, Counter};
 use super::files::small_set;
-use super::texts::wordiest;
+use super::long::longest;
+use super::texts::wordy;
 use crate::chance::Chance;
 use crate::damage::P;
 use crate::file::{load, write};
 use crate::making::{set, Recipe};
 use crate::program::line;
 use crate::records::Case;
-use crate::set::{Kind, Point, Set};
+use crate::set::Kind;
 use crate::text::text;
 
 const SETS_EACH: usize = 11;
@@ -29,6 +30,7 @@ pub fn cases(chance: &mut Chance) -> Vec<Case> {
         files.push(write(&set(chance, Recipe::Planted, 2, n, m)));
     }
     files.push(write(&wordy()));
+    files.push(write(&longest(0, true)));
     let endless = Counter::plain(6).turning().constraints(0);
     files.push(write(&counting(&[Kind::Sensor], 6, endless)));
     files
@@ -38,18 +40,6 @@ pub fn cases(chance: &mut Chance) -> Vec<Case> {
             Case::Buffers { file, sizes }
         })
         .collect()
-}
-
-/// Nearly the longest text there is; output 0 is held both ways at word 0, so
-/// that it is soon judged.
-fn wordy() -> Set {
-    let mut set = wordiest();
-    for (place, negated) in [(0, false), (63, true)] {
-        let reads = (0..12).map(|k| plain(Point::Read(k), true));
-        let output = plain(Point::Output(0), negated);
-        set.constraints[place].literals = reads.chain([output]).collect();
-    }
-    set
 }
 
 /// No bytes, one, and sizes around each length that is needed.

@@ -65,6 +65,18 @@ pub fn wordiest() -> Set {
     }
 }
 
+/// Nearly the longest text there is; output 0 is held both ways at word 0, so
+/// that it is soon judged.
+pub fn wordy() -> Set {
+    let mut set = wordiest();
+    for (place, negated) in [(0, false), (63, true)] {
+        let reads = (0..12).map(|k| plain(Point::Read(k), true));
+        let output = plain(Point::Output(0), negated);
+        set.constraints[place].literals = reads.chain([output]).collect();
+    }
+    set
+}
+
 /// Points named by the words and signs of the text, and by digits.
 fn odd_names() -> Set {
     let names = [
