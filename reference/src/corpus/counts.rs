@@ -93,7 +93,7 @@ const NEEDED: &[(&str, usize)] = &[
     ("R sets whose file is refused by 7", 20),
     ("R sets whose file is refused by 8", 3),
     ("R sets whose file is refused by 10", 3),
-    ("R sets whose file is refused by 11", 3),
+    ("R sets whose file is refused by 11", 1),
     ("R sets whose file loads to another", 50),
     ("R SET verdict 0", 10),
     ("R SET verdict 20", 250),
