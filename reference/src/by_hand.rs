@@ -1,7 +1,7 @@
 //! Document 01's "Tried by hand" as files and scans, for the front of a corpus.
 
 use crate::damage::P;
-use crate::records::Pair;
+use crate::records::{Case, Words};
 
 /// A file of sensors, pasts of sensor 0 and outputs, with constraints as they stand in a file.
 fn file(sensors: u8, pasts: u8, outputs: u8, constraints: &[&[u8]]) -> Vec<u8> {
@@ -32,36 +32,36 @@ fn p_exchanged() -> Vec<u8> {
 }
 
 /// The cases in the order of the paper; for the last, files that are refused.
-pub fn pairs() -> Vec<Pair> {
-    let pair = |file: Vec<u8>, scans: &[(u32, u16)]| Pair {
+pub fn cases() -> Vec<Case> {
+    let case = |file: Vec<u8>, scans: &[Words]| Case::File {
         file,
         scans: scans.to_vec(),
     };
     let mut more = P.to_vec();
     more.push(0);
     vec![
-        pair(P.to_vec(), &[(0, 1), (0, 3), (1, 3), (1, 2)]),
-        pair(p_exchanged(), &[(0, 1), (1, 1)]),
-        pair(file(1, 0, 1, &[&[0, 0, 0xC0, 0], &[0, 0, 0x40, 0]]), &[]),
-        pair(
+        case(P.to_vec(), &[(0, 1), (0, 3), (1, 3), (1, 2)]),
+        case(p_exchanged(), &[(0, 1), (1, 1)]),
+        case(file(1, 0, 1, &[&[0, 0, 0xC0, 0], &[0, 0, 0x40, 0]]), &[]),
+        case(
             file(0, 0, 2, &[&[0x40, 1, 0xC1, 0], &[0x40, 1, 0x41, 0]]),
             &[],
         ),
-        pair(file(0, 0, 2, &[&[0x40, 0, 0x41, 0]]), &[(0, 3)]),
-        pair(
+        case(file(0, 0, 2, &[&[0x40, 0, 0x41, 0]]), &[(0, 3)]),
+        case(
             file(0, 0, 3, &[&[0x40, 0, 0x41, 1], &[0x40, 1, 0x42, 0]]),
             &[(0, 7)],
         ),
-        pair(
+        case(
             file(1, 1, 1, &[&[0, 0, 0x81, 0, 0x40, 0]]),
             &[(1, 1), (1, 1)],
         ),
-        pair(Vec::new(), &[]),
-        pair(P[..38].to_vec(), &[]),
-        pair(more, &[]),
-        pair(file(16, 0, 8, &[]), &[(0xFFFF, 0xFF)]),
-        pair(file(16, 0, 9, &[]), &[]),
-        pair(file(1, 0, 0, &[]), &[]),
-        pair(file(1, 0, 13, &[]), &[]),
+        case(Vec::new(), &[]),
+        case(P[..38].to_vec(), &[]),
+        case(more, &[]),
+        case(file(16, 0, 8, &[]), &[(0xFFFF, 0xFF)]),
+        case(file(16, 0, 9, &[]), &[]),
+        case(file(1, 0, 0, &[]), &[]),
+        case(file(1, 0, 13, &[]), &[]),
     ]
 }

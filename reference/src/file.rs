@@ -9,12 +9,12 @@ pub struct Refusal {
     pub offset: usize,
 }
 
-/// The answer of writing into a buffer.
+/// The answer of writing a file, or a text, into a buffer.
 #[derive(Clone, Copy, Debug, PartialEq, Eq)]
 pub enum Written {
-    /// The file's length.
+    /// The length of what was written.
     Wrote(usize),
-    /// 24: the buffer is shorter than the file, with the length needed.
+    /// 24: the buffer is too short, with the length needed.
     Short(usize),
 }
 
@@ -159,7 +159,7 @@ fn constraint(field: &Field, set: &Set) -> Result<Constraint, Refusal> {
     field.need(field.tag == CONSTRAINT, 2)?;
     field.need(set.constraints.len() < MOST_CONSTRAINTS, 3)?;
     let length = field.body.len();
-    field.need((2..=48).contains(&length) && length % 2 == 0, 4)?;
+    field.need((2..=48).contains(&length) && length.is_multiple_of(2), 4)?;
     let mut literals: Vec<Literal> = Vec::new();
     for pair in field.body.chunks_exact(2) {
         let Some(literal) = literal(pair[0], pair[1], set) else {
@@ -235,13 +235,17 @@ pub fn write(set: &Set) -> Vec<u8> {
 
 /// Writes the file at the front of a buffer; a short one stays untouched.
 pub fn write_into(set: &Set, buffer: &mut [u8]) -> Written {
-    let file = write(set);
-    match buffer.get_mut(..file.len()) {
+    put_into(&write(set), buffer)
+}
+
+/// Puts bytes at the front of a buffer; a short one stays untouched.
+pub fn put_into(bytes: &[u8], buffer: &mut [u8]) -> Written {
+    match buffer.get_mut(..bytes.len()) {
         Some(front) => {
-            front.copy_from_slice(&file);
-            Written::Wrote(file.len())
+            front.copy_from_slice(bytes);
+            Written::Wrote(bytes.len())
         }
-        None => Written::Short(file.len()),
+        None => Written::Short(bytes.len()),
     }
 }
 

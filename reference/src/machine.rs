@@ -1,6 +1,8 @@
-//! The scan machine: start, and scan with refusals 31 to 33.
+//! The scan machine: start, and scan with refusals 30 to 33. Of 30 only the
+//! pasts' width is here: a set that is not well formed is not made a `Set`.
 
 use crate::filter::{walk, Walk};
+use crate::records::Words;
 use crate::set::{bits, word, Kind, ReadPoint, Set};
 use crate::verdict::{judge, Verdict};
 
@@ -8,8 +10,8 @@ use crate::verdict::{judge, Verdict};
 #[derive(Clone, Debug, PartialEq, Eq)]
 pub struct State {
     pub set: Set,
-    pub past_output: Vec<bool>,
-    pub past_sensor: Vec<bool>,
+    pub past_sensor: u32,
+    pub past_output: u16,
 }
 
 /// The answer of a scan that is not refused.
@@ -21,6 +23,8 @@ pub struct Sent {
 
 #[derive(Clone, Copy, Debug, PartialEq, Eq)]
 pub enum ScanRefusal {
+    /// A past word is out of width.
+    Past,
     SensorWord,
     Request,
     NeverSafe,
@@ -29,6 +33,7 @@ pub enum ScanRefusal {
 impl ScanRefusal {
     pub fn number(self) -> u8 {
         match self {
+            ScanRefusal::Past => 30,
             ScanRefusal::SensorWord => 31,
             ScanRefusal::Request => 32,
             ScanRefusal::NeverSafe => 33,
@@ -39,10 +44,15 @@ impl ScanRefusal {
 impl State {
     /// The set with both pasts 0, judged or not.
     pub fn fresh(set: &Set) -> State {
+        State::with_pasts(set, (0, 0))
+    }
+
+    /// The set with these past words (sensors, outputs), allowed or not.
+    pub fn with_pasts(set: &Set, (past_sensor, past_output): Words) -> State {
         State {
             set: set.clone(),
-            past_output: vec![false; set.outputs.len()],
-            past_sensor: vec![false; set.reads.len()],
+            past_sensor,
+            past_output,
         }
     }
 }
@@ -57,22 +67,40 @@ pub fn start(set: &Set) -> Result<State, Verdict> {
 
 /// One scan. A refused one leaves the state as it was.
 pub fn scan(state: &mut State, sensor: u32, request: u16) -> Result<Sent, ScanRefusal> {
-    let sensed = sensed(&state.set, sensor).ok_or(ScanRefusal::SensorWord)?;
-    let asked = fitting(u32::from(request), state.set.outputs.len());
-    let asked = asked.ok_or(ScanRefusal::Request)?;
-    let reads = read_bits(state, &sensed);
+    let (reads, asked) = taken(state, sensor, request)?;
     match walk(&state.set, &reads, &asked) {
         Walk::Endless => Err(ScanRefusal::NeverSafe),
         Walk::Safe { vector, passes } => {
-            let sent = word(&vector);
-            state.past_output = vector;
-            state.past_sensor = sensed;
-            Ok(Sent {
-                vector: sent,
-                passes,
-            })
+            let vector = word(&vector);
+            state.past_sensor = sensor;
+            // An output word has at most 12 bits.
+            state.past_output = vector as u16;
+            Ok(Sent { vector, passes })
         }
     }
+}
+
+/// The read word and the request of a scan as bits, or refusal 30, 31 or 32.
+pub fn taken(
+    state: &State,
+    sensor: u32,
+    request: u16,
+) -> Result<(Vec<bool>, Vec<bool>), ScanRefusal> {
+    let n = state.set.outputs.len();
+    let past_output = fitting(u32::from(state.past_output), n);
+    let past_sensor = fitting(state.past_sensor, state.set.reads.len());
+    let (Some(past_output), Some(past_sensor)) = (past_output, past_sensor) else {
+        return Err(ScanRefusal::Past);
+    };
+    let sensed = sensed(&state.set, sensor).ok_or(ScanRefusal::SensorWord)?;
+    let asked = fitting(u32::from(request), n).ok_or(ScanRefusal::Request)?;
+    let value = |(number, point): (usize, &ReadPoint)| match point.kind {
+        Kind::Sensor => sensed[number],
+        Kind::PastOutput(index) => past_output[index],
+        Kind::PastSensor(index) => past_sensor[index],
+    };
+    let reads = state.set.reads.iter().enumerate().map(value).collect();
+    Ok((reads, asked))
 }
 
 /// The bits of a word, or nothing if it has a bit beyond the count.
@@ -87,14 +115,4 @@ fn sensed(set: &Set, sensor: u32) -> Option<Vec<bool>> {
     let at_past = |(point, &bit): (&ReadPoint, &bool)| bit && point.kind != Kind::Sensor;
     let bad = set.reads.iter().zip(&sensed).any(at_past);
     (!bad).then_some(sensed)
-}
-
-/// The read word of a scan: what is sensed, past points filled from the state.
-fn read_bits(state: &State, sensed: &[bool]) -> Vec<bool> {
-    let value = |(number, point): (usize, &ReadPoint)| match point.kind {
-        Kind::Sensor => sensed[number],
-        Kind::PastOutput(index) => state.past_output[index],
-        Kind::PastSensor(index) => state.past_sensor[index],
-    };
-    state.set.reads.iter().enumerate().map(value).collect()
 }

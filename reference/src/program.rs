@@ -1,6 +1,6 @@
 //! The line that the verdict program prints.
 
-use crate::file::load;
+use crate::file::{load, put_into, Written};
 use crate::set::Set;
 use crate::verdict::{judge, Verdict};
 
@@ -15,11 +15,21 @@ pub fn line(input: &[u8]) -> String {
     }
 }
 
+/// The line of a set by its verdict.
 fn judged(set: &Set) -> String {
     let (r, n, m) = (set.reads.len(), set.outputs.len(), set.constraints.len());
     match judge(set) {
         Verdict::Accepted => format!("ACCEPT {r} {n} {m}\n"),
         Verdict::NoVector(word) => format!("NOVECTOR {word}\n"),
         Verdict::NoEnd(word, request) => format!("NOEND {word} {request}\n"),
+    }
+}
+
+/// Puts a line into a buffer and gives its length; where the buffer is shorter
+/// it stays untouched, and the answer is 0.
+pub fn put_line(line: &str, buffer: &mut [u8]) -> usize {
+    match put_into(line.as_bytes(), buffer) {
+        Written::Wrote(length) => length,
+        Written::Short(_) => 0,
     }
 }

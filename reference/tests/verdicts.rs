@@ -1,10 +1,9 @@
 //! The verdict against the paper read plainly, and accepted sets in use.
 
 use reference::chance::Chance;
-use reference::filter::{holds, is_safe, start_vector, walk, Walk};
+use reference::filter::{holds, is_safe, pass, start_vector, walk, Walk};
 use reference::machine::{scan, start, ScanRefusal, State};
 use reference::making::{scans, set, Recipe};
-use reference::records::{pair_bytes, pairs, Pair};
 use reference::set::{bits, word, Kind, Set};
 use reference::verdict::{judge, judge_plainly, Verdict};
 
@@ -73,6 +72,35 @@ fn the_named_word_fails_as_said() {
             assert_eq!(walk(&set, &reads, &asked), Walk::Endless);
         }
     }
+}
+
+/// A walk as the scan has it: at most 2^f - 1 passes.
+fn bounded_walk(set: &Set, reads: &[bool], request: &[bool]) -> Walk {
+    let holds = holds(set, reads);
+    let unheld = holds.iter().filter(|hold| !hold.is_held()).count();
+    let mut vector = start_vector(&holds, request);
+    for passes in 0..1 << unheld {
+        if is_safe(set, reads, &vector) {
+            return Walk::Safe { vector, passes };
+        }
+        vector = pass(set, reads, &holds, &vector);
+    }
+    Walk::Endless
+}
+
+#[test]
+fn an_endless_walk_is_one_beyond_the_bound() {
+    let mut endless = 0;
+    for set in small_sets(19, 30) {
+        let (r, n) = (set.reads.len(), set.outputs.len());
+        for (word, request) in (0..1 << r).flat_map(|w| (0..1 << n).map(move |g| (w, g))) {
+            let (reads, asked) = (bits(word, r), bits(request, n));
+            let walked = walk(&set, &reads, &asked);
+            assert_eq!(walked, bounded_walk(&set, &reads, &asked));
+            endless += usize::from(walked == Walk::Endless);
+        }
+    }
+    assert!(endless > 100, "{endless}");
 }
 
 /// What demand 3 says of each scan of a list, told from the calls alone.
@@ -151,17 +179,4 @@ fn long_walks_reach_the_bound() {
         let sent = scan(&mut state, 0, request).map(|s| (s.vector, s.passes));
         assert_eq!(sent, Ok((2, passes)));
     }
-}
-
-#[test]
-fn records_are_read_back() {
-    let pair = |file: &[u8], scans: &[(u32, u16)]| Pair {
-        file: file.to_vec(),
-        scans: scans.to_vec(),
-    };
-    let two = [pair(b"", &[]), pair(b"abc", &[(0x8000_0001, 0xFFFE)])];
-    let bytes: Vec<u8> = two.iter().filter_map(pair_bytes).flatten().collect();
-    assert_eq!(pairs(&bytes), Some(two.to_vec()));
-    assert_eq!(pairs(&bytes[..bytes.len() - 1]), None);
-    assert_eq!(pairs(&[0, 0]), None);
 }

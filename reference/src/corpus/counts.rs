@@ -1,0 +1,337 @@
+//! Counts of what a corpus holds, told from this implementation's answers to
+//! it, and what there must be.
+
+use super::texts::LONGEST;
+use crate::answer::answer;
+use crate::file::load;
+use crate::filter::{holds, pass, start_vector};
+use crate::machine::{scan, taken, ScanRefusal, State};
+use crate::raw::{form, well_formed, Form};
+use crate::records::{Case, Words};
+use crate::set::Set;
+use std::collections::BTreeMap;
+
+/// How many there are of each sort.
+pub type Counts = BTreeMap<String, usize>;
+
+/// What a corpus must have, and how many at least.
+const NEEDED: &[(&str, usize)] = &[
+    ("F cases", 5000),
+    ("F ACCEPT", 1000),
+    ("F NOVECTOR", 150),
+    ("F NOEND", 150),
+    ("F JUDGE ACCEPT", 1000),
+    ("F JUDGE NOVECTOR", 150),
+    ("F JUDGE NOEND", 150),
+    ("F JUDGE LOAD", 2000),
+    ("F LOAD 1", 1),
+    ("F LOAD 2", 1),
+    ("F LOAD 3", 1),
+    ("F LOAD 4", 1),
+    ("F LOAD 5", 1),
+    ("F LOAD 6", 1),
+    ("F LOAD 7", 1),
+    ("F LOAD 8", 1),
+    ("F LOAD 9", 1),
+    ("F LOAD 10", 1),
+    ("F LOAD 11", 1),
+    ("F LOAD 12", 1),
+    ("F SCANS sent", 20_000),
+    ("F SCANS !31", 1000),
+    ("F SCANS !32", 1000),
+    ("F TEXT in full", 500),
+    ("F TEXT as a sum", 500),
+    ("F TEXT of 600 bytes", 1),
+    ("F TEXT of 601 bytes", 1),
+    ("F TEXT as long as can be", 1),
+    ("F files whose first 4096 bytes are refused otherwise", 10),
+    ("F lists of 100 scans or more", 12),
+    ("F lists of scans that are not used", 2),
+    ("F longest files", 2),
+    ("F walks of more than 63 passes", 30),
+    ("F walks of 4095 passes", 1),
+    ("S cases", 400),
+    ("S LOAD 1", 1),
+    ("S STATE sent", 1000),
+    ("S STATE !30", 100),
+    ("S STATE !31", 100),
+    ("S STATE !32", 100),
+    ("S 33, f 0, at once", 50),
+    ("S 33, f 1, first pass flips", 20),
+    ("S 33, f 1, first pass flips nothing", 20),
+    ("S 33, f 2 to 11, first pass flips", 50),
+    ("S 33, f 2 to 11, first pass flips nothing", 50),
+    ("S 33, f 12, first pass flips", 5),
+    ("N cases", 60),
+    ("N LOAD 1", 1),
+    ("N NAMES R", 100),
+    ("N NAMES O", 100),
+    ("N NAMES !40", 500),
+    ("N NAMES !41", 1000),
+    ("B cases", 60),
+    ("B LOAD 1", 1),
+    ("B WRITES 0", 200),
+    ("B WRITES 24", 200),
+    ("B JUDGES 0", 100),
+    ("B JUDGES 21", 100),
+    ("B JUDGES 22", 50),
+    ("B JUDGES 23", 15),
+    ("B STARTS 0", 100),
+    ("B STARTS 21", 100),
+    ("B STARTS 22", 50),
+    ("B STARTS 23", 15),
+    ("B LINES 0", 100),
+    ("B LINES put", 100),
+    ("B TEXTS 0", 100),
+    ("B TEXTS 24", 100),
+    ("R cases", 300),
+    ("R sets well formed", 30),
+    ("R sets with a count beyond the places", 10),
+    ("R sets whose file is refused by 4", 5),
+    ("R sets whose file is refused by 5", 5),
+    ("R sets whose file is refused by 6", 10),
+    ("R sets whose file is refused by 7", 20),
+    ("R sets whose file is refused by 8", 3),
+    ("R sets whose file is refused by 10", 3),
+    ("R sets whose file is refused by 11", 1),
+    ("R sets whose file loads to another", 50),
+    ("R SET verdict 0", 10),
+    ("R SET verdict 20", 250),
+    ("R SET verdict 22", 3),
+    ("R SET verdict 23", 1),
+    ("R NAMES R", 50),
+    ("R NAMES O", 50),
+    ("R NAMES !20", 1000),
+    ("R NAMES !40", 10),
+    ("R NAMES !41", 10),
+    ("R STATE sent", 50),
+    ("R STATE !30", 500),
+    ("R STATE !31", 3),
+    ("R STATE !32", 3),
+    ("R STATE !33", 3),
+];
+
+/// What a corpus must have and has not, or has too little of.
+pub fn missing(counts: &Counts) -> Vec<&'static str> {
+    let enough = |key: &str, least: usize| counts.get(key).is_some_and(|&count| count >= least);
+    NEEDED
+        .iter()
+        .filter(|&&(key, least)| !enough(key, least))
+        .map(|&(key, _)| key)
+        .collect()
+}
+
+/// The counts of a corpus.
+pub fn counts(cases: &[Case]) -> Counts {
+    let mut counts = Counts::new();
+    for case in cases {
+        let kind = kind(case);
+        let answer = answer(case);
+        add(&mut counts, format!("{kind} cases"));
+        for line in answer.lines() {
+            for sort in sorts_of_line(line) {
+                add(&mut counts, format!("{kind} {sort}"));
+            }
+        }
+        for sort in sorts_of_case(case, &answer) {
+            add(&mut counts, format!("{kind} {sort}"));
+        }
+    }
+    counts
+}
+
+fn add(counts: &mut Counts, key: String) {
+    *counts.entry(key).or_default() += 1;
+}
+
+fn kind(case: &Case) -> char {
+    match case {
+        Case::File { .. } => 'F',
+        Case::State { .. } => 'S',
+        Case::Names { .. } => 'N',
+        Case::Buffers { .. } => 'B',
+        Case::Raw { .. } => 'R',
+    }
+}
+
+/// What a line of the answer counts as. The lines of a text, which begin with
+/// a small letter, are not counted.
+fn sorts_of_line(line: &str) -> Vec<String> {
+    let words: Vec<&str> = line.split(' ').collect();
+    match words[0] {
+        "JUDGE" | "LOAD" => vec![words[..2].join(" ")],
+        "WRITE" => vec![format!("WRITE {}", words[2])],
+        "TEXT" => vec![String::from(sort_of_text(words[1]))],
+        "ACCEPT" | "NOVECTOR" | "NOEND" => vec![words[0].to_string()],
+        "SET" => ["write", "verdict", "text"]
+            .iter()
+            .zip(&words[1..])
+            .map(|(operation, item)| format!("SET {operation} {}", answered(item)))
+            .collect(),
+        "FIND" | "NAMES" | "SCANS" | "STATE" | "WRITES" | "JUDGES" | "STARTS" | "LINES"
+        | "TEXTS" => words[1..]
+            .iter()
+            .take_while(|&&item| item != "=")
+            .map(|item| format!("{} {}", words[0], item_sort(words[0], item)))
+            .collect(),
+        _ => Vec::new(),
+    }
+}
+
+/// What a text counts as by its length.
+fn sort_of_text(length: &str) -> &'static str {
+    match length.parse() {
+        Ok(600) => "TEXT of 600 bytes",
+        Ok(601) => "TEXT of 601 bytes",
+        Ok(LONGEST) => "TEXT as long as can be",
+        Ok(length) if length < 600 => "TEXT in full",
+        _ => "TEXT as a sum",
+    }
+}
+
+/// The number of an answer, before its values and the sum.
+fn answered(item: &str) -> &str {
+    let end = item.find(['/', ':']).unwrap_or(item.len());
+    &item[..end]
+}
+
+/// What an item counts as.
+fn item_sort<'a>(line: &str, item: &'a str) -> &'a str {
+    match line {
+        _ if item.starts_with('!') => item,
+        "FIND" | "NAMES" => &item[..1],
+        "SCANS" | "STATE" => "sent",
+        "LINES" if answered(item) != "0" => "put",
+        _ => answered(item),
+    }
+}
+
+/// What a case counts as beside its lines.
+fn sorts_of_case(case: &Case, answer: &str) -> Vec<String> {
+    match case {
+        Case::File { file, scans } => {
+            let sorts = sorts_of_file(file, scans, answer);
+            sorts.into_iter().map(String::from).collect()
+        }
+        Case::State { file, words } => sorts_of_33(load(file).ok(), words),
+        Case::Raw { set, words, .. } => {
+            let mut sorts = sorts_of_33(well_formed(set), words);
+            sorts.push(sort_of_form(&form(set)));
+            sorts
+        }
+        _ => Vec::new(),
+    }
+}
+
+/// Whether a set made by hand is well formed, and where it fails to be.
+fn sort_of_form(form: &Form) -> String {
+    match form {
+        Form::WellFormed(_) => String::from("sets well formed"),
+        Form::NoPlaces => String::from("sets with a count beyond the places"),
+        Form::Refused(number) => format!("sets whose file is refused by {number}"),
+        Form::Lost => String::from("sets whose file loads to another"),
+    }
+}
+
+fn sorts_of_file(file: &[u8], scans: &[Words], answer: &str) -> Vec<&'static str> {
+    let mut sorts = Vec::new();
+    for passes in passes(answer) {
+        if passes > 63 {
+            sorts.push("walks of more than 63 passes");
+        }
+        if passes == 4095 {
+            sorts.push("walks of 4095 passes");
+        }
+    }
+    if file.len() == super::long::LONGEST && answer.contains("LOADED") {
+        sorts.push("longest files");
+    }
+    let lines: Vec<&str> = answer.lines().collect();
+    if lines[1].starts_with("LOAD ") && lines[0] != format!("JUDGE {}", lines[1]) {
+        sorts.push("files whose first 4096 bytes are refused otherwise");
+    }
+    if scans.len() >= 100 && answer.contains("SCANS") {
+        sorts.push("lists of 100 scans or more");
+    }
+    if !scans.is_empty() && !answer.contains("SCANS") {
+        sorts.push("lists of scans that are not used");
+    }
+    sorts
+}
+
+/// The passes that an answer reports.
+fn passes(answer: &str) -> Vec<u32> {
+    let line = answer.lines().find(|line| line.starts_with("SCANS"));
+    let items = line.unwrap_or("").split(' ');
+    items
+        .filter_map(|item| item.split_once('/')?.1.parse().ok())
+        .collect()
+}
+
+/// The scans from a hand-made state that are refused by 33, by what f is and
+/// by what the first pass does.
+fn sorts_of_33(set: Option<Set>, words: &[Words]) -> Vec<String> {
+    let (Some(set), [pasts, scans @ ..]) = (set, words) else {
+        return Vec::new();
+    };
+    let mut state = State::with_pasts(&set, *pasts);
+    let mut sorts = Vec::new();
+    for &(sensor, request) in scans {
+        let before = state.clone();
+        if scan(&mut state, sensor, request) == Err(ScanRefusal::NeverSafe) {
+            sorts.extend(sort_of_33(&before, sensor, request));
+        }
+    }
+    sorts
+}
+
+fn sort_of_33(state: &State, sensor: u32, request: u16) -> Option<String> {
+    let (reads, asked) = taken(state, sensor, request).ok()?;
+    let holds = holds(&state.set, &reads);
+    let free = holds.iter().filter(|hold| !hold.is_held()).count();
+    let first = start_vector(&holds, &asked);
+    let moves = pass(&state.set, &reads, &holds, &first) != first;
+    let f = match free {
+        0 | 1 | 12 => free.to_string(),
+        _ => String::from("2 to 11"),
+    };
+    let pass = match (free, moves) {
+        (0, _) => "at once",
+        (_, true) => "first pass flips",
+        (_, false) => "first pass flips nothing",
+    };
+    Some(format!("33, f {f}, {pass}"))
+}
+
+#[cfg(test)]
+mod tests {
+    use super::*;
+    use crate::damage::P;
+
+    #[test]
+    fn lines_are_counted_by_their_items() {
+        let sorts = |line: &str| sorts_of_line(line).join(", ");
+        assert_eq!(sorts("JUDGE LOAD 1 5"), "JUDGE LOAD");
+        assert_eq!(sorts("LOAD 12 39"), "LOAD 12");
+        assert_eq!(sorts("SCANS 0/1 !31 = 1 0"), "SCANS sent, SCANS !31");
+        assert_eq!(sorts("NAMES R0 O11 !41"), "NAMES R, NAMES O, NAMES !41");
+        assert_eq!(sorts("JUDGES 0:7 23/1/2:3"), "JUDGES 0, JUDGES 23");
+        assert_eq!(sorts("LINES 0:7 13:9"), "LINES 0, LINES put");
+        assert_eq!(
+            sorts("SET 0/39:1 22/1 20"),
+            "SET write 0, SET verdict 22, SET text 20"
+        );
+        assert_eq!(sorts("output SCANS"), "");
+    }
+
+    #[test]
+    fn what_is_missing() {
+        let case = Case::File {
+            file: P.to_vec(),
+            scans: Vec::new(),
+        };
+        let counts = counts(&[case]);
+        assert_eq!(counts.get("F ACCEPT"), Some(&1));
+        assert!(missing(&counts).contains(&"F ACCEPT"));
+    }
+}

@@ -1,0 +1,191 @@
+//! States made by hand: sets with past points, accepted or not, from pasts that
+//! no start need have led to; and long lists of scans from a start.
+
+use super::counters::{counting, holding, plain, Counter};
+use crate::chance::Chance;
+use crate::file::write;
+use crate::making::{scans, set, Recipe};
+use crate::records::{Case, Words};
+use crate::set::{Constraint, Kind, Literal, Point, Set};
+use crate::verdict::{judge, Verdict};
+
+const SETS_EACH: usize = 80;
+const SCANS_EACH: usize = 12;
+const STUCK: usize = 40;
+const LONG_LISTS: usize = 12;
+
+/// Hand-made states of all recipes, of sets with no way out, and of endless
+/// counters.
+pub fn cases(chance: &mut Chance) -> Vec<Case> {
+    let mut cases = Vec::new();
+    for recipe in [
+        Recipe::Loose,
+        Recipe::Bent,
+        Recipe::Planted,
+        Recipe::Chain,
+        Recipe::Clash,
+    ] {
+        for _ in 0..SETS_EACH {
+            let set = with_pasts(chance, recipe);
+            cases.push(by_hand(chance, &set, SCANS_EACH));
+        }
+    }
+    for _ in 0..STUCK {
+        let set = stuck(chance);
+        cases.push(by_hand(chance, &set, SCANS_EACH));
+    }
+    cases.extend(endless_counters(chance));
+    cases.extend(few_words());
+    cases
+}
+
+/// A set with a past output and a past sensor among its read points.
+fn with_pasts(chance: &mut Chance, recipe: Recipe) -> Set {
+    loop {
+        let (r, n) = (chance.between(2, 8), chance.between(1, 6));
+        let m = chance.between(1, 3 * n);
+        let set = set(chance, recipe, r, n.max(2), m);
+        let any = |wanted: fn(&Kind) -> bool| set.reads.iter().any(|point| wanted(&point.kind));
+        if any(|kind| matches!(kind, Kind::PastOutput(_)))
+            && any(|kind| matches!(kind, Kind::PastSensor(_)))
+        {
+            return set;
+        }
+    }
+}
+
+/// A state of a set with pasts of any allowed value, now and then another, and
+/// scans.
+fn by_hand(chance: &mut Chance, set: &Set, count: usize) -> Case {
+    let mut words = vec![pasts(chance, set.reads.len(), set.outputs.len())];
+    words.extend(scans(chance, set, count));
+    Case::State {
+        file: write(set),
+        words,
+    }
+}
+
+/// Past words (sensors, outputs), once in ten times out of width.
+pub fn pasts(chance: &mut Chance, r: usize, n: usize) -> Words {
+    let sensor = chance.below(1 << r) as u32;
+    let output = chance.below(1 << n) as u16;
+    match chance.below(50) {
+        0 => (sensor | 1 << r, output),
+        1 => (sensor | 1 << chance.between(r, 31), output),
+        2 => (sensor, output | 1 << n),
+        3 => (sensor, output | 1 << chance.between(n, 15)),
+        4 => (sensor | 1 << 31, output | 1 << 15),
+        _ => (sensor, output),
+    }
+}
+
+/// A set whose outputs, most or all of them, are held while some read points
+/// have their values, where a combined constraint is true: f is 0, or small.
+fn stuck(chance: &mut Chance) -> Set {
+    let n = chance.between(1, 4);
+    let guard: Vec<Literal> = (0..3)
+        .filter(|_| chance.one_in(2))
+        .map(|k| plain(Point::Read(k), k == 1))
+        .collect();
+    let values: Vec<bool> = (0..n).map(|_| chance.one_in(2)).collect();
+    let free = if chance.one_in(3) { 1 } else { 0 };
+    let mut constraints = Vec::new();
+    let at = |output: usize, on: bool| Literal {
+        rank: output as u8,
+        ..plain(Point::Output(output), !on)
+    };
+    let with_guard = |literals: Vec<Literal>| Constraint {
+        literals: guard.iter().copied().chain(literals).collect(),
+    };
+    for (output, &on) in values.iter().enumerate().skip(free) {
+        constraints.push(with_guard(vec![at(output, !on)]));
+    }
+    constraints.push(with_guard((0..n).map(|k| at(k, values[k])).collect()));
+    if free == 1 {
+        // The free output has no good value either.
+        constraints.push(with_guard(
+            (0..n).map(|k| at(k, values[k] != (k == 0))).collect(),
+        ));
+    }
+    let kinds = [Kind::Sensor, Kind::PastSensor(0), Kind::PastOutput(n - 1)];
+    counting(&kinds, n, constraints)
+}
+
+/// Counters that go round: with all outputs, with one that can stop it, and
+/// with some held. The walks take all passes that are allowed.
+fn endless_counters(chance: &mut Chance) -> Vec<Case> {
+    let kinds = [Kind::Sensor, Kind::PastOutput(11), Kind::PastSensor(0)];
+    let mut cases = Vec::new();
+    for count in [2, 3, 5, 8, 11, 12] {
+        let mut counter = Counter::mixed(chance, count).turning();
+        if count < 12 {
+            // Output 11 off, or the past of the sensor off, stops it.
+            counter = counter.guarded(&[
+                plain(Point::Read(2), false),
+                Literal {
+                    rank: 255,
+                    ..plain(Point::Output(11), false)
+                },
+            ]);
+        }
+        let mut constraints = counter.constraints(9);
+        constraints.extend((count..11).map(|output| holding(output, chance.one_in(2))));
+        let set = counting(&kinds, 12, constraints);
+        let words = [
+            (1, 0x800),
+            (1, 0x800),
+            (1, 0xFFF),
+            (1, 0x7FF),
+            (0, 0x801),
+            (1, 0),
+        ];
+        cases.push(Case::State {
+            file: write(&set),
+            words: words.to_vec(),
+        });
+    }
+    cases
+}
+
+/// No words at all, pasts alone, and a file that is refused.
+fn few_words() -> Vec<Case> {
+    let file = write(&counting(
+        &[Kind::Sensor, Kind::PastSensor(0)],
+        2,
+        Vec::new(),
+    ));
+    let state = |file: &[u8], words: &[Words]| Case::State {
+        file: file.to_vec(),
+        words: words.to_vec(),
+    };
+    vec![
+        state(&file, &[]),
+        state(&file, &[(3, 3)]),
+        state(&file, &[(4, 4)]),
+        state(&file, &[(u32::MAX, u16::MAX), (0, 0)]),
+        state(&file, &[(3, 3), (2, 0), (0, 4), (1, 3)]),
+        state(&file[..file.len() - 1], &[(3, 3), (1, 1)]),
+        state(&[], &[]),
+    ]
+}
+
+/// Accepted sets with past points, and 100 to 600 scans from the start.
+pub fn long_lists(chance: &mut Chance) -> Vec<Case> {
+    let mut cases = Vec::new();
+    while cases.len() < LONG_LISTS {
+        let recipe = [Recipe::Planted, Recipe::Bent, Recipe::Loose][chance.below(3)];
+        let set = with_pasts(chance, recipe);
+        if judge(&set) != Verdict::Accepted || set.constraints.len() < 4 {
+            continue;
+        }
+        let count = match cases.len() {
+            0 => 600,
+            _ => chance.between(100, 600),
+        };
+        cases.push(Case::File {
+            file: write(&set),
+            scans: scans(chance, &set, count),
+        });
+    }
+    cases
+}
