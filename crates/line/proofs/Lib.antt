@@ -1,4 +1,3 @@
 pub mod TextLaws
 pub mod LineLaws
-pub mod DigitsLaws
 pub mod LoadedSets

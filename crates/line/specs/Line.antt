@@ -1,10 +1,11 @@
 -- The verdict program's line: its bytes, and the line of a file.
 -- Assumes nothing.
-use Prim.Native.Nat.{ℕ, zero, suc, _+_, _/_, _%_}
+use Prim.Native.Nat.{ℕ}
 use mathlib.Core.Bool.{cond}
 use mathlib.Core.List.{List, [], _∷_, _++_}
-use lib.Dec.{leb, eqb}
+use lib.Dec.{leb}
 use lib.ListN.{length, drop}
+use Rattle.decimal.specs.Decimal.{decimal}
 use Rattle.scan.specs.declared.set.Set.{Set}
 use Rattle.loader.specs.declared.loader.LoadAnswer.{LoadAnswer}
 use Rattle.loader.specs.declared.loader.LoadAnswer.the-variants.{Loaded, Refused}
@@ -16,21 +17,6 @@ use Rattle.line.specs.declared.printer.Line.{Line}
 use Rattle.line.specs.declared.printer.Line.the-variants.{Accept, Load, NoVector, NoEnd}
 
 -- ---- numbers
-
--- the last digit of a number, in ASCII
-abbrev pub lastDigit : ℕ → ℕ
-lastDigit n = 0x30 + n % 10
-
--- the digits of a number, none for 0, and at most so many of them
-unfoldable pub leading : ℕ → ℕ → List ℕ
-leading zero n = []
-leading (suc most) n =
-    let more = leading most (n / 10) ++ (lastDigit n ∷ []) in
-    cond (eqb n 0) [] more
-
--- the decimal digits of a number of at most 20 digits, without leading zeros
-unfoldable pub decimal : ℕ → List ℕ
-decimal n = leading 19 (n / 10) ++ (lastDigit n ∷ [])
 
 -- a space and a number
 unfoldable pub spaced : ℕ → List ℕ

@@ -1,26 +1,18 @@
 // The bytes of a line, as they are made: the first `len` of the bytes.
+use decimal::digits_of;
 ghost use mathlib.Core.Path.{_≡_};
 ghost use mathlib.Core.List.{[], _∷_, _++_};
-ghost use Prim.Native.Nat.{_+_, _≤_, _<_};
-ghost use lib.ListN.{length, take, drop};
-ghost use Rattle.line.specs.Line.{decimal, spaced};
+ghost use Prim.Native.Nat.{_+_, _≤_};
+ghost use lib.ListN.{length, take};
+ghost use Rattle.line.specs.Line.{spaced};
 ghost use Rattle.line.specs.way.Text.{textBytes};
 
 // A word of at most 8 bytes, three numbers of at most 20 digits with a space before each, and the line's end fit.
 pub const LONGEST_LINE: usize = 80;
 
-// The most digits of a number.
-pub const MOST_DIGITS: usize = 20;
-
 pub struct Text {
     pub bytes: [u8; LONGEST_LINE],
     pub len: usize,
-}
-
-// The digits of a number stand at the end, from place `at` on.
-pub struct Digits {
-    pub bytes: [u8; MOST_DIGITS],
-    pub at: usize,
 }
 
 fn empty_text() -> Text
@@ -55,25 +47,6 @@ pub fn word_text(word: [u8; 8], len: usize) -> Text
         k = k + 1;
     }
     t
-}
-
-// The decimal digits of a number, from the last to the first.
-fn digits_of(n: usize) -> Digits
-    ensures { λ r. ⌜ (r .at ≤ 20) × (drop (r .at) (r .bytes) ≡ decimal n) ⌝ }
-{
-    let mut bytes = [0u8; MOST_DIGITS];
-    bytes[19] = (48 + n % 10) as u8;
-    let mut at: usize = 19;
-    let mut rest = n / 10;
-    while at > 0 {
-        if rest == 0 {
-            return Digits { bytes, at };
-        }
-        at = at - 1;
-        bytes[at] = (48 + rest % 10) as u8;
-        rest = rest / 10;
-    }
-    Digits { bytes, at }
 }
 
 // The text with a space and a number behind it.

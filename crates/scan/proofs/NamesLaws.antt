@@ -8,8 +8,8 @@ use native.Mathlib.Nat.{suc-inj}
 use native.Mathlib.Decide.{decLe}
 use native.Mathlib.Omega.{arith}
 use lib.Dec.{leb, ltb, eqb}
-use lib.ListN.{length, getD, take, drop, replicate, length-append, length-drop, length-replicate, take-append-drop, List·getD-append}
-use lib.Seq.{ext-getD, length-take-le, getD-append-add, getD-drop, getD-take, take-append-seam}
+use lib.ListN.{length, getD, take, drop, replicate, length-append, length-take, length-drop, length-replicate, take-append-drop, List·getD-append}
+use lib.Seq.{ext-getD, length-take-le, getD-append-add, getD-drop, getD-take, take-append-seam, take-at}
 use borrow.Author.Tests.{eq-eqb, ne-eqb, eqb-true, leb-true, lt-ltb, le-ltb, ltb-true}
 use Rattle.words.specs.Loop.{first, all}
 use Rattle.words.proofs.BoolLaws.{and-true, cond-true, cond-false, every-at}
@@ -145,3 +145,20 @@ pub bytes-padded : (bytes : List ℕ) → allNameBytes bytes ≡ true → length
 unfolding nameBytes
 bytes-padded bytes named few =
     ap (λ (k : ℕ). take k (padded bytes)) (length-padded bytes named few) ∙ take-append-seam bytes (replicate (namePlaces - length bytes) 0)
+
+-- ---- as many bytes as a name has
+
+-- the bytes before the first zero are the name's
+pub name-ends : (name : List ℕ) (k : ℕ) → k ≤ length name → k ≡ first namePlaces (zeroAt name) → k ≡ length (nameBytes name)
+unfolding nameBytes nameLength
+name-ends name k h e = sym (length-take-le k name h) ∙ ap (λ (j : ℕ). length (take j name)) e
+
+pub name-short : (name : List ℕ) → length (nameBytes name) ≤ length name
+unfolding nameBytes
+name-short name = omega (arith, length-take (nameLength name) name)
+
+-- as many of the first bytes as the name has are its bytes
+pub name-taken : (name : List ℕ) (len : ℕ) → len ≡ length (nameBytes name) → take len name ≡ nameBytes name
+unfolding nameBytes
+name-taken name len e =
+    ap (take len) (sym (take-append-drop (nameLength name) name)) ∙ take-at (take (nameLength name) name) (drop (nameLength name) name) len (sym e)

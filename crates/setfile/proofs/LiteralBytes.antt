@@ -8,13 +8,14 @@ use native.Mathlib.Omega.{arith}
 use lib.ListN.{length}
 use lib.Pow.{shr-shr}
 use borrow.Author.Tests.{eqb-true, eqb-false, eq-eqb, ne-eqb}
+use Rattle.words.specs.Loop.{joined}
 use Rattle.words.specs.Word.{bit}
 use Rattle.scan.specs.declared.set.Constraint.{Constraint}
 use Rattle.scan.specs.Set.{mostReads, mostOutputs, rankEnd}
 use Rattle.header.specs.Bytes.{Bytes}
 use Rattle.literal.specs.declared.literal.Said.{Said}
 use Rattle.literal.specs.Literal.{isOutput, isNegated, spare, fourBits, narrow, narrows}
-use Rattle.writer.specs.Write.{readLiteral, outputLiteral, joined, literalBody}
+use Rattle.writer.specs.Write.{readLiteral, outputLiteral, literalBody}
 use Rattle.literal.proofs.LiteralLaws.{room}
 use Rattle.setfile.proofs.LiteralPlaces.{by-four, said, mask}
 use Rattle.setfile.proofs.BodyPlaces.{upTo, worth, saidIf, saidOf, allSaid, by-kind}

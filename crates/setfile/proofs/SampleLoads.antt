@@ -2,7 +2,7 @@
 -- Assumes nothing.
 use mathlib.Core.Path.{_≡_, refl}
 use Rattle.words.specs.Word.{odd, bit}
-use Rattle.words.specs.Loop.{all, first, firstFrom}
+use Rattle.words.specs.Loop.{all, first, firstFrom, joined}
 use Rattle.scan.specs.Set.{zeroSet}
 use Rattle.scan.specs.Names.{nameByte, allNameBytes, nameLength, nameBytes, sameName, readNamed, firstRead, outputNamed, firstOutput, isUsed}
 use Rattle.shape.specs.Spelling.{spelling}
@@ -12,7 +12,7 @@ use Rattle.loader.specs.declared.loader.LoadAnswer.the-variants.{Loaded}
 use Rattle.header.specs.Header.{rawOf, headerOf}
 use Rattle.literal.specs.Literal.{narrows, withLiteral, literalsFrom}
 use Rattle.loader.specs.Load.{countsAt, nameField, kindOf, readField, readOf, readAt, readsFrom, outputOf, outputAt, outputsFrom, constraintAt, constraintsFrom, loadFrom, loadOf}
-use Rattle.writer.specs.Write.{readLiteral, outputLiteral, joined, literalBody, fieldsOf, writeOf}
+use Rattle.writer.specs.Write.{readLiteral, outputLiteral, literalBody, fieldsOf, writeOf}
 use Rattle.setfile.specs.SampleFile.{fileP}
 
 -- The file loads to P.

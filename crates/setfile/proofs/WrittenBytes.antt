@@ -9,6 +9,7 @@ use lib.Dec.{ltb, leb}
 use lib.ListN.{length, getD, take, length-take}
 use lib.Seq.{getD-take}
 use borrow.Author.Tests.{ltb-true, leb-true}
+use Rattle.words.specs.Loop.{joined}
 use Rattle.words.specs.Word.{bit}
 use Rattle.words.proofs.BoolLaws.{and-true}
 use Rattle.words.proofs.LoopLaws.{all-at}
@@ -23,7 +24,7 @@ use Rattle.scan.specs.Shape.{isSensor, kindOk, wellFormed}
 use Rattle.scan.proofs.ShapeLaws.{Masks, rank-lt, counts, masks, points-formed}
 use Rattle.scan.proofs.NamesLaws.{name-formed, bytes-named}
 use Rattle.header.specs.Bytes.{Bytes}
-use Rattle.writer.specs.Write.{fieldOf, kindBytes, readBody, outputBody, readLiteral, outputLiteral, joined, literalBody, fieldsOf, writeOf}
+use Rattle.writer.specs.Write.{fieldOf, kindBytes, readBody, outputBody, readLiteral, outputLiteral, literalBody, fieldsOf, writeOf}
 use Rattle.setfile.proofs.LiteralPlaces.{mask, by-four}
 use Rattle.setfile.proofs.BodyPlaces.{worth}
 use Rattle.setfile.proofs.LiteralBytes.{byte, told, literal}

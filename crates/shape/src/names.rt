@@ -11,7 +11,7 @@ ghost use mathlib.Core.Path.{_≡_};
 ghost use Prim.Native.Nat.{_≤_, min};
 ghost use lib.ListN.{length};
 ghost use Rattle.scan.specs.Set.{mostReads, mostOutputs, namePlaces};
-ghost use Rattle.scan.specs.Names.{nameByte, allNameBytes, lengthOk, padded, nameOk, nameZero, sameName};
+ghost use Rattle.scan.specs.Names.{nameByte, allNameBytes, lengthOk, padded, nameBytes, nameOk, nameZero, sameName};
 ghost use Rattle.shape.specs.way.Names.{nextOk, firstName, nameUsed, ReadNames, OutputNames};
 ghost use Rattle.shape.specs.Spelling.{spelling};
 
@@ -74,6 +74,21 @@ pub fn spell(bytes: &[u8]) -> Spelled
     }
     let name = [0u8; NAME_PLACES];
     Spelled { good: false, name }
+}
+
+// How many bytes the name has: those before the first zero.
+pub fn name_length(name: [u8; NAME_PLACES]) -> usize
+    ensures { λ r. ⌜ (r ≡ length (nameBytes name)) × (r ≤ namePlaces) ⌝ }
+{
+    let mut k: usize = 0;
+    while k < NAME_PLACES {
+        let c = name[k];
+        if c == 0 {
+            return k;
+        }
+        k = k + 1;
+    }
+    NAME_PLACES
 }
 
 // A zero, or a name byte behind a byte that is no zero.

@@ -52,6 +52,11 @@ unfoldable pub listed : {A : Type 0} → ℕ → (ℕ → A) → List A
 listed zero f = []
 listed (suc n) f = listed n f ++ (f n ∷ [])
 
+-- the lists f 0, f 1 .. f (n - 1), one after the other
+unfoldable pub joined : {A : Type 0} → ℕ → (ℕ → List A) → List A
+joined zero f = []
+joined (suc n) f = joined n f ++ f n
+
 -- f applied k times
 unfoldable pub iterate : (ℕ → ℕ) → ℕ → ℕ → ℕ
 iterate f zero x = x

@@ -11,7 +11,7 @@ use lib.Pow.{pow-mono}
 use lib.Bits.{bitOr, or-lt}
 use lib.Count.{ones}
 use Rattle.words.specs.Word.{bit}
-use Rattle.words.specs.Loop.{count}
+use Rattle.words.specs.Loop.{count, joined}
 use Rattle.words.proofs.BitLaws.{bit-or}
 use Rattle.words.proofs.PopcountLaws.{ones-in, ones-count, count-le}
 use Rattle.scan.specs.declared.set.Constraint.{Constraint}
@@ -19,7 +19,7 @@ use Rattle.scan.specs.declared.set.Set.{Set}
 use Rattle.scan.specs.Set.{mostReads, mostOutputs, constraint, rank, outs}
 use Rattle.scan.specs.Shape.{wellFormed}
 use Rattle.scan.proofs.ShapeLaws.{counts, masks, outs-lt}
-use Rattle.writer.specs.Write.{readLiteral, outputLiteral, joined, literalBody}
+use Rattle.writer.specs.Write.{readLiteral, outputLiteral, literalBody}
 use Rattle.writer.specs.way.Write.{FewPoints, signedBy, literalAt, literalsAt}
 
 -- ---- a literal, as the code puts it

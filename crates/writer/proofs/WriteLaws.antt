@@ -11,17 +11,17 @@ use lib.ListN.{length, getD, take, drop, set, length-append, length-take, length
 use lib.Seq.{take-suc, set-split, sets-eq, take-at, drop-append-add, drop-drop, length-take-le}
 use lib.Dec.{leb, ltb}
 use borrow.Author.Tests.{lt-ltb, le-ltb, le-leb, lt-leb}
-use Rattle.words.specs.Loop.{first}
+use Rattle.words.specs.Loop.{first, joined}
 use Rattle.scan.specs.declared.set.Kind.{Kind}
 use Rattle.scan.specs.declared.set.Kind.the-variants.{Sensor, PastOutput, PastSensor}
 use Rattle.scan.specs.declared.set.ReadPoint.{ReadPoint}
 use Rattle.scan.specs.declared.set.OutputPoint.{OutputPoint}
 use Rattle.scan.specs.declared.set.Constraint.{Constraint}
 use Rattle.scan.specs.declared.set.Set.{Set}
-use Rattle.scan.specs.Set.{namePlaces, noRead, noOutput, noConstraint}
-use Rattle.scan.specs.Names.{zeroAt, nameLength, nameBytes}
+use Rattle.scan.specs.Set.{noRead, noOutput, noConstraint}
+use Rattle.scan.specs.Names.{nameBytes}
 use Rattle.scan.specs.Shape.{wellFormed}
-use Rattle.writer.specs.Write.{fieldOf, kindBytes, readBody, outputBody, joined, literalBody, fieldsOf, writeOf, writeAnswer, bufferAfter}
+use Rattle.writer.specs.Write.{fieldOf, kindBytes, readBody, outputBody, literalBody, fieldsOf, writeOf, writeAnswer, bufferAfter}
 use Rattle.writer.specs.way.Write.{readFields, outputFields, constraintFields, putAt, Put}
 use Rattle.writer.specs.declared.writer.Written.the-variants.{Wrote, BadSet, Short}
 
@@ -104,22 +104,7 @@ field-put buf at tag len body mid after next place e h p q =
     subst (λ (n : ℕ). Put buf at (tag ∷ n / 256 ∷ n % 256 ∷ body) after place) e
     (put-then buf at (tag ∷ len / 256 ∷ len % 256 ∷ []) body mid after next place (omega arith) p q)
 
--- ---- names and kinds
-
--- the bytes before the first zero are the name's
-pub name-ends : (name : List ℕ) (k : ℕ) → k ≤ length name → k ≡ first namePlaces (zeroAt name) → k ≡ length (nameBytes name)
-unfolding nameBytes nameLength
-name-ends name k h e = sym (length-take-le k name h) ∙ ap (λ (j : ℕ). length (take j name)) e
-
-pub name-short : (name : List ℕ) → length (nameBytes name) ≤ length name
-unfolding nameBytes
-name-short name = omega (arith, length-take (nameLength name) name)
-
--- as many of the first bytes as the name has are its bytes
-pub name-taken : (name : List ℕ) (len : ℕ) → len ≡ length (nameBytes name) → take len name ≡ nameBytes name
-unfolding nameBytes
-name-taken name len e =
-    ap (take len) (sym (take-append-drop (nameLength name) name)) ∙ take-at (take (nameLength name) name) (drop (nameLength name) name) len (sym e)
+-- ---- kinds
 
 -- kind and index are two bytes
 pub kind-long : (k : Kind) → length (kindBytes k) ≡ 2

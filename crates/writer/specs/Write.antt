@@ -1,10 +1,11 @@
 -- Writing: the file of a set, the answer, and the buffer at exit.
 -- Assumes nothing.
-use Prim.Native.Nat.{ℕ, zero, suc, _+_, _/_, _%_}
+use Prim.Native.Nat.{ℕ, _+_, _/_, _%_}
 use mathlib.Core.Bool.{cond, not, _&&_}
 use mathlib.Core.List.{List, [], _∷_, _++_}
 use lib.Dec.{leb, ltb}
 use lib.ListN.{length, take, drop}
+use Rattle.words.specs.Loop.{joined}
 use Rattle.words.specs.Word.{bit}
 use Rattle.scan.specs.declared.set.Kind.{Kind}
 use Rattle.scan.specs.declared.set.Kind.the-variants.{Sensor, PastOutput, PastSensor}
@@ -47,11 +48,6 @@ readLiteral c k =
 unfoldable pub outputLiteral : Constraint → ℕ → List ℕ
 outputLiteral c k =
     cond (bit k (c .«out_plain»)) ((0x40 + k) ∷ rank c k ∷ []) (cond (bit k (c .«out_negated»)) ((0xC0 + k) ∷ rank c k ∷ []) [])
-
--- what f gives for 0, 1 .. n - 1, one after the other
-unfoldable pub joined : ℕ → (ℕ → List ℕ) → List ℕ
-joined zero f = []
-joined (suc n) f = joined n f ++ f n
 
 -- the body of a constraint: its read literals by number, then its output literals by number
 unfoldable pub literalBody : Constraint → List ℕ

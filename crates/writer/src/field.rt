@@ -9,6 +9,7 @@ use scan::MOST_READS;
 use scan::NAME_PLACES;
 use scan::OutputPoint;
 use scan::ReadPoint;
+use shape::name_length;
 ghost use mathlib.Core.Path.{_≡_};
 ghost use mathlib.Core.List.{[], _∷_};
 ghost use Prim.Native.Nat.{_+_, _*_, _/_, _%_, _^_, _≤_, _<_};
@@ -17,21 +18,6 @@ ghost use Rattle.scan.specs.Set.{mostReads, mostOutputs, namePlaces};
 ghost use Rattle.scan.specs.Names.{nameBytes};
 ghost use Rattle.writer.specs.Write.{fieldOf, kindBytes, readBody, outputBody, literalBody};
 ghost use Rattle.writer.specs.way.Write.{FewPoints, signedBy, literalsAt, Put};
-
-// How many bytes the name has: those before the first zero.
-pub fn name_length(name: [u8; NAME_PLACES]) -> usize
-    ensures { λ r. ⌜ (r ≡ length (nameBytes name)) × (r ≤ namePlaces) ⌝ }
-{
-    let mut k: usize = 0;
-    while k < NAME_PLACES {
-        let c = name[k];
-        if c == 0 {
-            return k;
-        }
-        k = k + 1;
-    }
-    NAME_PLACES
-}
 
 // The length of a constraint's body: two bytes for each literal.
 pub fn literals_length(c: Constraint) -> usize

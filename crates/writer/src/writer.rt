@@ -1,6 +1,5 @@
 // Writing: the length of the file is counted first, and then each field is put into the lent buffer.
 use super::field::literals_length;
-use super::field::name_length;
 use super::field::put_constraint;
 use super::field::put_counts;
 use super::field::put_header;
@@ -14,6 +13,7 @@ use scan::MOST_READS;
 use scan::OutputPoint;
 use scan::ReadPoint;
 use scan::Set;
+use shape::name_length;
 use shape::well_formed;
 ghost use mathlib.Core.Path.{_≡_};
 ghost use mathlib.Core.Bool.{true};

@@ -6,12 +6,13 @@ use mathlib.Core.Bool.{Bool, cond}
 use mathlib.Core.List.{List, [], _∷_, _++_}
 use lib.ListN.{length, getD, take, drop}
 use lib.Bits.{bitOr}
+use Rattle.words.specs.Loop.{joined}
 use Rattle.words.specs.Word.{bit}
 use Rattle.scan.specs.declared.set.ReadPoint.{ReadPoint}
 use Rattle.scan.specs.declared.set.OutputPoint.{OutputPoint}
 use Rattle.scan.specs.declared.set.Constraint.{Constraint}
 use Rattle.scan.specs.Set.{mostReads, mostOutputs, outs}
-use Rattle.writer.specs.Write.{readBody, outputBody, joined, literalBody, fieldsOf}
+use Rattle.writer.specs.Write.{readBody, outputBody, literalBody, fieldsOf}
 
 -- the fields of the first r read points
 abbrev pub readFields : List ReadPoint → ℕ → List ℕ

@@ -7,7 +7,7 @@ use Prim.Native.Nat.{ℕ, _+_, _-_, _≤_}
 use native.Mathlib.Omega.{arith}
 use lib.ListN.{length, drop}
 use Rattle.words.proofs.ListLaws.{mapped-long}
-use Rattle.line.specs.Line.{decimal}
+use Rattle.decimal.specs.Decimal.{decimal}
 use Rattle.line.specs.way.Text.{textBytes}
 use Rattle.line.proofs.TextLaws.{rest-more, rest-none, spaced-made}
 use Rattle.line.proofs.text.with_number.Statement.{statement}

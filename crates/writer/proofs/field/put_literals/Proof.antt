@@ -9,9 +9,9 @@ use lib.Bits.{and-le-r}
 use lib.Count.{trailingZeros}
 use lib.ListN.{length, getD}
 use denote.Ref.{now}
+use Rattle.words.specs.Loop.{joined}
 use Rattle.words.specs.Word.{odd, bit}
 use Rattle.words.proofs.BitLaws.{bit-below}
-use Rattle.writer.specs.Write.{joined}
 use Rattle.writer.specs.way.Write.{literalAt, Put}
 use Rattle.writer.proofs.LowestBit.{Lowest, lowest, Rest, rest-all, rest-from, rest-here, rest-gap, rest-next, rest-none}
 use Rattle.writer.proofs.LiteralBodyLaws.{literal-here, literals-skip}

@@ -1,4 +1,4 @@
--- `line::text::digits_of` meets its contract. The loop's invariant: what is left of the number, written before the bytes from `at` on, gives the digits.
+-- `decimal::digits_of` meets its contract. The loop's invariant: what is left of the number, written before the bytes from `at` on, gives the digits.
 -- Assumes nothing.
 use Prim.Native.Nat.{_≤_, _-_}
 use borrow.Author.Needs.{needs}
@@ -6,10 +6,10 @@ use mathlib.Core.Path.{_≡_, _∙_}
 use mathlib.Core.List.{_++_}
 use native.Mathlib.Omega.{arith}
 use lib.ListN.{length, drop, length-set}
-use Rattle.line.specs.Line.{lastDigit, leading, decimal}
-use Rattle.line.proofs.TextLaws.{digits-start, digits-more, digits-end, digits-full}
-use Rattle.line.proofs.text.digits_of.Statement.{statement}
-use Rattle.line.proofs.text.digits_of.Tie as tie
+use Rattle.decimal.specs.Decimal.{lastDigit, leading, decimal}
+use Rattle.decimal.proofs.DecimalLaws.{digits-start, digits-more, digits-end, digits-full}
+use Rattle.decimal.proofs.digits_of.Statement.{statement}
+use Rattle.decimal.proofs.digits_of.Tie as tie
 
 abbrev Inv-loop : tie.InvT-loop
 Inv-loop n bytes₀ at₀ rest₀ bytes at rest = (at ≤ 19) × (length bytes ≡ 20) × (leading at rest ++ drop at bytes ≡ decimal n)

@@ -1,4 +1,4 @@
--- The decimal digits of a number say that number, and the first of several is not 0.
+-- The decimal digits of a number say that number; each is a digit, and the first of several is not 0.
 -- Assumes nothing.
 use mathlib.Core.Path.{_≡_, refl, sym, ap, _∙_}
 use mathlib.Core.Bool.{Bool, true, false, cond}
@@ -8,11 +8,11 @@ use Prim.Native.Nat.{ℕ, zero, suc, _+_, _-_, _*_, _/_, _%_, _^_, _≤_, _<_}
 use native.Mathlib.Omega.{arith}
 use native.Mathlib.Nat.{pow-suc}
 use lib.Dec.{eqb}
-use lib.ListN.{getD}
+use lib.ListN.{length, getD, length-append}
 use borrow.Author.Tests.{ne-eqb, eqb-true, eqb-false}
 use Rattle.words.proofs.BoolLaws.{by-test}
-use Rattle.line.specs.Line.{lastDigit, leading, decimal}
-use Rattle.line.specs.Digits.{saidAfter, said}
+use Rattle.decimal.specs.Decimal.{lastDigit, leading, decimal}
+use Rattle.decimal.specs.Digits.{saidAfter, said}
 
 -- one digit more
 said-more : (digits : List ℕ) (before n : ℕ) → saidAfter before (digits ++ (lastDigit n ∷ [])) ≡ saidAfter before digits * 10 + n % 10
@@ -67,3 +67,42 @@ leading-first (suc most) n rest p h = go (eqb (n / 10) 0) refl (λ q. leading-fi
 pub decimal-first : (n : ℕ) → 10 ≤ n → n < 10 ^ 20 → getD (decimal n) 0 0 ≢ 0x30
 unfolding decimal
 decimal-first n p h = leading-first 19 (n / 10) (lastDigit n ∷ []) (omega arith) (omega arith)
+
+-- every byte is an ASCII digit, 0x30 to 0x39
+abbrev pub AreDigits : List ℕ → Type 0
+AreDigits bytes = (k : ℕ) → k < length bytes → (0x30 ≤ getD bytes k 0) × (getD bytes k 0 ≤ 0x39)
+
+-- one digit more
+digits-behind : (digits : List ℕ) (n : ℕ) → AreDigits digits → AreDigits (digits ++ (lastDigit n ∷ []))
+digits-behind [] n d zero h = (omega arith, omega arith)
+digits-behind [] n d (suc k) h = absurd (omega arith)
+digits-behind (x ∷ digits) n d zero h = d 0 (omega arith)
+digits-behind (x ∷ digits) n d (suc k) h = digits-behind digits n (λ j l. d (suc j) (omega arith)) k (omega arith)
+
+leading-digits : (most n : ℕ) → AreDigits (leading most n)
+unfolding leading
+leading-digits zero n = λ k h. absurd (omega arith)
+leading-digits (suc most) n = go (eqb n 0) (digits-behind (leading most (n / 10)) n (leading-digits most (n / 10)))
+  where
+    go : (b : Bool) → AreDigits (leading most (n / 10) ++ (lastDigit n ∷ [])) → AreDigits (cond b [] (leading most (n / 10) ++ (lastDigit n ∷ [])))
+    go true more = λ k h. absurd (omega arith)
+    go false more = more
+
+-- Every byte of a number's digits is one of 0x30 to 0x39.
+pub decimal-digits : (n : ℕ) → AreDigits (decimal n)
+unfolding decimal
+decimal-digits n = digits-behind (leading 19 (n / 10)) n (leading-digits 19 (n / 10))
+
+leading-short : (most n : ℕ) → length (leading most n) ≤ most
+unfolding leading
+leading-short zero n = omega arith
+leading-short (suc most) n = go (eqb n 0) (leading-short most (n / 10))
+  where
+    go : (b : Bool) → length (leading most (n / 10)) ≤ most → length (cond b [] (leading most (n / 10) ++ (lastDigit n ∷ []))) ≤ suc most
+    go true h = omega arith
+    go false h = omega (arith, length-append (leading most (n / 10)) (lastDigit n ∷ []))
+
+-- A number has at most 20 digits.
+pub decimal-short : (n : ℕ) → length (decimal n) ≤ 20
+unfolding decimal
+decimal-short n = omega (arith, length-append (leading 19 (n / 10)) (lastDigit n ∷ []), leading-short 19 (n / 10))

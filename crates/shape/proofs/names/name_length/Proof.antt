@@ -1,4 +1,4 @@
--- `writer::field::name_length` meets its contract. The loop's invariant: none of the name's first k bytes is zero. Assumes nothing.
+-- `shape::names::name_length` meets its contract. The loop's invariant: none of the name's first k bytes is zero. Assumes nothing.
 use borrow.Author.Needs.{needs}
 use borrow.Author.Tests.{eq-eqb, ne-eqb}
 use mathlib.Core.Path.{_≡_}
@@ -8,9 +8,9 @@ use lib.ListN.{length}
 use Rattle.words.proofs.LoopTurns.{Missed, missed-none, missed-one, missed-here, missed-all}
 use Rattle.scan.specs.Set.{namePlaces}
 use Rattle.scan.specs.Names.{zeroAt}
-use Rattle.writer.proofs.WriteLaws.{name-ends}
-use Rattle.writer.proofs.field.name_length.Statement.{statement}
-use Rattle.writer.proofs.field.name_length.Tie as tie
+use Rattle.scan.proofs.NamesLaws.{name-ends}
+use Rattle.shape.proofs.names.name_length.Statement.{statement}
+use Rattle.shape.proofs.names.name_length.Tie as tie
 
 abbrev Inv-loop : tie.InvT-loop
 Inv-loop name k₀ k = Missed namePlaces (zeroAt name) k
