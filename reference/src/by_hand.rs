@@ -31,7 +31,7 @@ fn p_exchanged() -> Vec<u8> {
     bytes
 }
 
-/// The cases in the order of document 01; for the last, files that are refused.
+/// The cases in the order of the paper; for the last, files that are refused.
 pub fn pairs() -> Vec<Pair> {
     let pair = |file: Vec<u8>, scans: &[(u32, u16)]| Pair {
         file,
