@@ -1,6 +1,6 @@
 //! A second implementation of the ranked safety filter of document 01, made
-//! to compare the proved one with. It follows the paper's sentences literal by
-//! literal and is meant to be read beside it, not to be fast.
+//! to compare the proved one with. It follows that document's sentences literal
+//! by literal and is meant to be read beside it, not to be fast.
 
 pub mod answer;
 pub mod by_hand;

@@ -35,7 +35,7 @@ pub fn judge(set: &Set) -> Verdict {
     })
 }
 
-/// The verdict straight from the paper, every word by itself: slow, and there
+/// The verdict straight from document 01, every word by itself: slow, and there
 /// to test `judge` with.
 pub fn judge_plainly(set: &Set) -> Verdict {
     judge_by(set, |reads| try_word(set, reads))

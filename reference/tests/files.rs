@@ -1,5 +1,5 @@
-//! Loading, with each refusal and the orders that READINGS.md decides, and
-//! writing and finding.
+//! Loading, with each refusal and the orders that docs/DECISIONS.md decides,
+//! and writing and finding.
 
 use reference::chance::Chance;
 use reference::damage::P;

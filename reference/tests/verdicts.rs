@@ -1,4 +1,4 @@
-//! The verdict against the paper read plainly, and accepted sets in use.
+//! The verdict against document 01 read plainly, and accepted sets in use.
 
 use reference::chance::Chance;
 use reference::filter::{holds, is_safe, pass, start_vector, walk, Walk};
