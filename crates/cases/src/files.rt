@@ -79,6 +79,26 @@ fn print_rewritten(set: Set, file: &[u8]) {
     }
 }
 
+// The line of a set that the start rejects.
+fn print_rejected(v: Verdict) {
+    match v {
+        Verdict::NoVector { word } => {
+            io::write_all(1, b"NOVECTOR");
+            print32(b' ', word);
+        }
+        Verdict::NoEnd { word, request } => {
+            io::write_all(1, b"NOEND");
+            print32(b' ', word);
+            print16(b' ', request);
+        }
+        _ => {
+            io::write_all(1, b"START");
+            print_verdict(b'/', v);
+        }
+    }
+    end_line();
+}
+
 // The verdict of the start and, if the set is accepted, the scans.
 fn print_started(set: Set, calls: &[u8]) {
     let mut scratch = io::buffer();
@@ -89,22 +109,7 @@ fn print_started(set: Set, calls: &[u8]) {
             io::write_all(1, b"ACCEPT\nSCANS");
             print_list(started.state, calls);
         }
-        Verdict::NoVector { word } => {
-            io::write_all(1, b"NOVECTOR");
-            print32(b' ', word);
-            end_line();
-        }
-        Verdict::NoEnd { word, request } => {
-            io::write_all(1, b"NOEND");
-            print32(b' ', word);
-            print16(b' ', request);
-            end_line();
-        }
-        _ => {
-            io::write_all(1, b"START");
-            print_verdict(b'/', v);
-            end_line();
-        }
+        _ => print_rejected(v),
     }
 }
 
