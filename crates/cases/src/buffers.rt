@@ -105,6 +105,7 @@ fn print_lent(operation: Operation, set: Set, told: Line, arena: &mut [u8], len:
     }
 }
 
+// The operation with so many bytes, 16 more behind them; more than the most have no item.
 fn print_size(operation: Operation, set: Set, told: Line, len: usize) {
     let mut arena = [FILL; ARENA];
     if len <= MOST_SIZE {
@@ -112,15 +113,11 @@ fn print_size(operation: Operation, set: Set, told: Line, len: usize) {
     }
 }
 
-fn print_size16(operation: Operation, set: Set, told: Line, len: u16) {
-    print_size(operation, set, told, len as usize);
-}
-
 // The operation with each size of a sizes record.
 fn print_sizes(operation: Operation, set: Set, told: Line, sizes: &[u8]) {
     let mut i: usize = 0;
     while SIZE_BYTES <= sizes.len() - i {
-        print_size16(operation, set, told, two_of(behind(sizes, i)));
+        print_size(operation, set, told, two_of(behind(sizes, i)) as usize);
         i = i + SIZE_BYTES;
     }
     end_line();

@@ -4,8 +4,6 @@ use super::answers::print_written;
 use super::names::print_own_names;
 use super::printing::end_line;
 use super::printing::print_behind;
-use super::printing::print16;
-use super::printing::print32;
 use super::states::print_list;
 use line::Line;
 use scan::Set;
@@ -84,12 +82,12 @@ fn print_rejected(v: Verdict) {
     match v {
         Verdict::NoVector { word } => {
             io::write_all(1, b"NOVECTOR");
-            print32(b' ', word);
+            print_behind(b' ', word as usize);
         }
         Verdict::NoEnd { word, request } => {
             io::write_all(1, b"NOEND");
-            print32(b' ', word);
-            print16(b' ', request);
+            print_behind(b' ', word as usize);
+            print_behind(b' ', request as usize);
         }
         _ => {
             io::write_all(1, b"START");

@@ -2,9 +2,6 @@
 use super::answers::print_verdict;
 use super::answers::print_written;
 use super::printing::print_behind;
-use super::printing::print8;
-use super::printing::print16;
-use super::printing::print32;
 use machine::ScanAnswer;
 use scan::Set;
 use scan::State;
@@ -236,7 +233,7 @@ fn print_found(set: Set, name: &[u8]) {
             io::write_all(1, b" 1");
             print_behind(b' ', k);
         }
-        _ => print8(b' ', shape::number_of(found)),
+        _ => print_behind(b' ', shape::number_of(found) as usize),
     }
 }
 
@@ -249,13 +246,13 @@ fn print_scan(set: Set, past_output: u16, past_sensor: u32, sensor: u32, request
     };
     let scanned = machine::scan(state, sensor, request);
     let answer = scanned.answer;
-    print8(b' ', machine::number_of(answer));
+    print_behind(b' ', machine::number_of(answer) as usize);
     if let ScanAnswer::Sent { vector, passes } = answer {
-        print16(b' ', vector);
-        print16(b' ', passes);
+        print_behind(b' ', vector as usize);
+        print_behind(b' ', passes as usize);
     }
-    print16(b' ', scanned.state.past_output);
-    print32(b' ', scanned.state.past_sensor);
+    print_behind(b' ', scanned.state.past_output as usize);
+    print_behind(b' ', scanned.state.past_sensor as usize);
     io::write_all(1, b",");
 }
 

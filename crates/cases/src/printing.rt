@@ -11,19 +11,6 @@ pub fn print_behind(mark: u8, n: usize) {
     print(n);
 }
 
-// The same of a number of fewer bits.
-pub fn print8(mark: u8, n: u8) {
-    print_behind(mark, n as usize);
-}
-
-pub fn print16(mark: u8, n: u16) {
-    print_behind(mark, n as usize);
-}
-
-pub fn print32(mark: u8, n: u32) {
-    print_behind(mark, n as usize);
-}
-
 pub fn end_line() {
     io::write_all(1, b"\n");
 }
@@ -44,5 +31,5 @@ fn sum_of(bytes: &[u8]) -> u32 {
 }
 
 pub fn print_sum(mark: u8, bytes: &[u8]) {
-    print32(mark, sum_of(bytes));
+    print_behind(mark, sum_of(bytes) as usize);
 }

@@ -33,10 +33,6 @@ const OUTPUTS_AT: usize = 166;
 
 const CONSTRAINTS_AT: usize = 262;
 
-fn wide(n: u16) -> usize {
-    n as usize
-}
-
 fn name_of(bytes: &[u8]) -> [u8; NAME_PLACES] {
     [
         byte(bytes, 0),
@@ -139,9 +135,9 @@ fn constraints_of(bytes: &[u8]) -> [Constraint; MOST_CONSTRAINTS] {
 
 // The set that the bytes hold.
 fn set_of(bytes: &[u8]) -> Set {
-    let r = wide(two_of(bytes));
-    let n = wide(two_of(behind(bytes, 2)));
-    let m = wide(two_of(behind(bytes, 4)));
+    let r = two_of(bytes) as usize;
+    let n = two_of(behind(bytes, 2)) as usize;
+    let m = two_of(behind(bytes, 4)) as usize;
     let reads = reads_of(behind(bytes, READS_AT));
     let outputs = outputs_of(behind(bytes, OUTPUTS_AT));
     let constraints = constraints_of(behind(bytes, CONSTRAINTS_AT));

@@ -1,8 +1,7 @@
 // Lists of scans, and states made by hand.
 use super::answers::print_scan;
 use super::printing::end_line;
-use super::printing::print16;
-use super::printing::print32;
+use super::printing::print_behind;
 use super::records::PAIR;
 use super::records::behind;
 use super::records::four_of;
@@ -20,8 +19,8 @@ fn scan_one(state: State, sensor: u32, request: u16) -> State {
 
 fn print_pasts(state: State) {
     io::write_all(1, b" =");
-    print32(b' ', state.past_sensor);
-    print16(b' ', state.past_output);
+    print_behind(b' ', state.past_sensor as usize);
+    print_behind(b' ', state.past_output as usize);
     end_line();
 }
 

@@ -23,8 +23,11 @@ behind-requires c κs = search needs
 two-of-requires : tie.Need-two-of-requires Inv-loop μ-loop
 two-of-requires c κs = search needs
 
-print-size16-requires : tie.Need-print-size16-requires Inv-loop μ-loop
-print-size16-requires c κs = search needs
+cast-print-size : tie.Need-cast-print-size Inv-loop μ-loop
+cast-print-size c = search needs
+
+print-size-requires : tie.Need-print-size-requires Inv-loop μ-loop
+print-size-requires c κs = search needs
 
 add-i : tie.Need-add-i Inv-loop μ-loop
 add-i c = search needs
@@ -51,7 +54,8 @@ print-sizes-spec =
     sub-loop
     behind-requires
     two-of-requires
-    print-size16-requires
+    cast-print-size
+    print-size-requires
     add-i
     loop-less
     loop-again
