@@ -27,10 +27,10 @@ pub fn print_verdict(mark: u8, v: Verdict) {
     }
 }
 
-// A refusal among items that are no refusals.
-fn print_refusal(number: u8) {
+// An item whose kind a byte before the number tells: ! for a refusal.
+fn print_item(kind: u8, number: usize) {
     io::write_all(1, b" ");
-    print_behind(b'!', number as usize);
+    print_behind(kind, number);
 }
 
 pub fn print_scan(answer: ScanAnswer) {
@@ -39,21 +39,15 @@ pub fn print_scan(answer: ScanAnswer) {
             print_behind(b' ', vector as usize);
             print_behind(b'/', passes as usize);
         }
-        _ => print_refusal(machine::number_of(answer)),
+        _ => print_item(b'!', machine::number_of(answer) as usize),
     }
 }
 
 pub fn print_found(found: Found) {
     match found {
-        Found::Read(k) => {
-            io::write_all(1, b" ");
-            print_behind(b'R', k);
-        }
-        Found::Output(k) => {
-            io::write_all(1, b" ");
-            print_behind(b'O', k);
-        }
-        _ => print_refusal(shape::number_of(found)),
+        Found::Read(k) => print_item(b'R', k),
+        Found::Output(k) => print_item(b'O', k),
+        _ => print_item(b'!', shape::number_of(found) as usize),
     }
 }
 
