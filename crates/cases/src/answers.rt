@@ -3,6 +3,7 @@ use super::printing::end_line;
 use super::printing::print_behind;
 use machine::ScanAnswer;
 use shape::Found;
+use text::TextPut;
 use verdict::Verdict;
 use writer::Written;
 
@@ -12,6 +13,15 @@ pub fn print_written(mark: u8, written: Written) {
         Written::Wrote(length) => print_behind(mark, length),
         Written::Short(needed) => print_behind(mark, needed),
         Written::BadSet => {}
+    }
+}
+
+pub fn print_text_put(mark: u8, put: TextPut) {
+    print_behind(b' ', text::number_of(put) as usize);
+    match put {
+        TextPut::Put(length) => print_behind(mark, length),
+        TextPut::Short(needed) => print_behind(mark, needed),
+        TextPut::BadSet => {}
     }
 }
 

@@ -1,4 +1,5 @@
 // Operations with lent buffers of many sizes: the answers, and what is left of the bytes that are lent and of those behind them.
+use super::answers::print_text_put;
 use super::answers::print_verdict;
 use super::answers::print_written;
 use super::files::line_of;
@@ -30,6 +31,7 @@ enum Operation {
     Judge,
     Start,
     Line,
+    Text,
 }
 
 // What a call leaves: how many of the first bytes may have any content, and the outputs of the state that it returns.
@@ -85,12 +87,19 @@ fn lend_line(told: Line, buf: &mut [u8]) -> Left {
     exact()
 }
 
+fn lend_text(set: Set, buf: &mut [u8]) -> Left {
+    let put = text::put_text(set, buf);
+    print_text_put(b'/', put);
+    exact()
+}
+
 fn lend(operation: Operation, set: Set, told: Line, buf: &mut [u8]) -> Left {
     match operation {
         Operation::Write => lend_write(set, buf),
         Operation::Judge => lend_judge(set, buf),
         Operation::Start => lend_start(set, buf),
         Operation::Line => lend_line(told, buf),
+        Operation::Text => lend_text(set, buf),
     }
 }
 
@@ -134,4 +143,6 @@ pub fn print_buffers(set: Set, file: &[u8], sizes: &[u8]) {
     print_sizes(Operation::Start, set, told, sizes);
     io::write_all(1, b"LINES");
     print_sizes(Operation::Line, set, told, sizes);
+    io::write_all(1, b"TEXTS");
+    print_sizes(Operation::Text, set, told, sizes);
 }

@@ -5,6 +5,7 @@ use super::names::print_own_names;
 use super::printing::end_line;
 use super::printing::print_behind;
 use super::states::print_list;
+use super::texts::print_text;
 use line::Line;
 use scan::Set;
 use verdict::Verdict;
@@ -120,5 +121,6 @@ pub fn print_file(set: Set, file: &[u8], calls: &[u8]) {
     end_line();
     print_rewritten(set, file);
     print_own_names(set);
+    print_text(set);
     print_started(set, calls);
 }

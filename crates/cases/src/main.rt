@@ -5,6 +5,7 @@ mod printing; // numbers, items and sums
 mod answers; // what operations answer
 mod names; // finding by name
 mod states; // lists of scans
+mod texts; // the canonical text
 mod files; // a file, and the set that it holds
 mod buffers; // lent buffers of many sizes
 mod sets; // sets made by hand, from bytes

@@ -9,6 +9,7 @@ use super::records::byte;
 use super::records::four_of;
 use super::records::two_of;
 use super::states::print_state;
+use super::texts::print_text_of;
 use scan::Constraint;
 use scan::Kind;
 use scan::MOST_CONSTRAINTS;
@@ -171,6 +172,7 @@ fn print_any(set: Set, words: &[u8], names: &[u8]) {
     io::write_all(1, b"SET");
     print_file_of(set);
     print_verdict_of(set);
+    print_text_of(set);
     end_line();
     print_names(set, names);
     print_state(set, words);
