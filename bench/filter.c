@@ -247,7 +247,7 @@ static bool is_safe(const struct table *t, uint16_t v)
 // ---- the verdict
 
 struct verdict {
-    unsigned number; // 1: accepted; else the refusal
+    unsigned number; // 0: accepted; else the refusal
     uint32_t word;
     uint16_t request;
 };
@@ -294,7 +294,7 @@ static struct verdict judge(const struct set *s, uint8_t *scratch, size_t len)
             if (!settle(&t, start_vector(&t, (uint16_t)g), scratch))
                 return (struct verdict){ 23, w, (uint16_t)g };
     }
-    return (struct verdict){ 1, 0, 0 };
+    return (struct verdict){ 0, 0, 0 };
 }
 
 // The state of an accepted set, and a state of zeros of any other.
@@ -302,7 +302,7 @@ static struct verdict start(const struct set *s, uint8_t *scratch, size_t len, s
 {
     struct verdict v = judge(s, scratch, len);
     memset(st, 0, sizeof *st);
-    if (v.number == 1)
+    if (v.number == 0)
         st->set = *s;
     return v;
 }
@@ -587,10 +587,13 @@ static unsigned write_set(const struct set *s, uint8_t *buf, size_t len)
     if (len < file_length(s))
         return 24;
     put_file(s, buf);
-    return 1;
+    return 0;
 }
 
 // ---- the program
+
+// Where a checksum begins: not at 0, which answers of 0 would leave as it is however many they are.
+enum { SUM_BEGIN = 1 };
 
 static uint32_t mix(uint32_t sum, uint32_t x)
 {
@@ -610,7 +613,7 @@ static uint32_t four(const uint8_t *b)
 static uint32_t judge_often(const struct set *s, uint32_t times)
 {
     static uint8_t scratch[MOST_VECTORS];
-    uint32_t sum = 0;
+    uint32_t sum = SUM_BEGIN;
     for (; times > 0; times--) {
         struct verdict v = judge(s, scratch, sizeof scratch);
         sum = mix(sum, v.number);
@@ -626,7 +629,7 @@ static uint32_t scan_often(const struct set *s, uint32_t times)
 {
     static uint8_t scratch[MOST_VECTORS], head[2], calls[65536 * 6];
     static struct state st;
-    uint32_t sum = 0;
+    uint32_t sum = SUM_BEGIN;
     size_t got = fread(head, 1, 2, stdin);
     size_t count = two(head);
     got += fread(calls, 6, count, stdin);
@@ -645,7 +648,7 @@ static uint32_t load_often(const uint8_t *file, size_t len, uint32_t times)
 {
     static struct set s;
     size_t offset;
-    uint32_t sum = 0;
+    uint32_t sum = SUM_BEGIN;
     for (; times > 0; times--) {
         unsigned refusal = load(file, len, &s, &offset);
         if (refusal != 0) {
@@ -665,7 +668,7 @@ static uint32_t load_often(const uint8_t *file, size_t len, uint32_t times)
 static uint32_t write_often(const struct set *s, uint32_t times)
 {
     static uint8_t buf[MOST_FILE];
-    uint32_t sum = 0;
+    uint32_t sum = SUM_BEGIN;
     for (; times > 0; times--) {
         sum = mix(sum, write_set(s, buf, sizeof buf));
         sum = mix(sum, buf[times % 4096]);

@@ -1,11 +1,11 @@
 // Cases that no file can show: sets and states made by hand, and what is left of lent buffers and scratch.
-use super::print;
+use super::answers::print_verdict;
+use super::answers::print_written;
+use super::printing::print_behind;
 use machine::ScanAnswer;
 use scan::Set;
 use scan::State;
 use shape::Found;
-use verdict::Verdict;
-use writer::Written;
 
 // What lent bytes hold before a call.
 const FILL: u8 = 0xAA;
@@ -145,11 +145,6 @@ fn print_test(test: bool) {
     }
 }
 
-fn print_number(n: usize) {
-    io::write_all(1, b" ");
-    print(n);
-}
-
 // P with a byte of a name beyond the counts.
 fn stray_name() -> Set {
     let mut s = set_p();
@@ -211,55 +206,19 @@ fn is_filled(buf: &[u8], from: usize) -> bool {
 
 // Writing into a buffer: the answer, and whether bytes from `from` on are untouched.
 fn print_write(set: Set, buf: &mut [u8], from: usize) {
-    let written = writer::write(set, buf);
-    match written {
-        Written::Wrote(n) => {
-            print_number(0);
-            print_number(n);
-        }
-        Written::BadSet => {
-            print_number(20);
-        }
-        Written::Short(n) => {
-            print_number(24);
-            print_number(n);
-        }
-    }
+    print_written(b' ', writer::write(set, &mut *buf));
     print_test(is_filled(buf, from));
-}
-
-fn print_told(v: Verdict) {
-    match v {
-        Verdict::Accepted => {
-            print_number(0);
-        }
-        Verdict::BadSet => {
-            print_number(20);
-        }
-        Verdict::ShortScratch => {
-            print_number(21);
-        }
-        Verdict::NoVector { word } => {
-            print_number(22);
-            print_number(word as usize);
-        }
-        Verdict::NoEnd { word, request } => {
-            print_number(23);
-            print_number(word as usize);
-            print_number(request as usize);
-        }
-    }
 }
 
 // The verdict and the start with this scratch: the answers, whether bytes from `from` on are untouched, and whether the state is zero.
 fn print_judged(set: Set, scratch: &mut [u8], from: usize) {
     let v = verdict::judge(set, scratch);
-    print_told(v);
+    print_verdict(b' ', v);
     print_test(is_filled(scratch, from));
     let started = start::start(set, scratch);
     print_test(is_filled(scratch, from));
     let w = started.verdict;
-    print_told(w);
+    print_verdict(b' ', w);
     print_test(started.state.set.n == 0);
 }
 
@@ -267,22 +226,14 @@ fn print_found(set: Set, name: &[u8]) {
     let found = shape::find(set, name);
     match found {
         Found::Read(k) => {
-            print_number(0);
-            print_number(k);
+            io::write_all(1, b" 0");
+            print_behind(b' ', k);
         }
         Found::Output(k) => {
-            print_number(1);
-            print_number(k);
+            io::write_all(1, b" 1");
+            print_behind(b' ', k);
         }
-        Found::BadSet => {
-            print_number(20);
-        }
-        Found::BadLength => {
-            print_number(40);
-        }
-        Found::Unknown => {
-            print_number(41);
-        }
+        _ => print_behind(b' ', shape::number_of(found) as usize),
     }
 }
 
@@ -295,27 +246,13 @@ fn print_scan(set: Set, past_output: u16, past_sensor: u32, sensor: u32, request
     };
     let scanned = machine::scan(state, sensor, request);
     let answer = scanned.answer;
-    match answer {
-        ScanAnswer::Sent { vector, passes } => {
-            print_number(0);
-            print_number(vector as usize);
-            print_number(passes as usize);
-        }
-        ScanAnswer::BadState => {
-            print_number(30);
-        }
-        ScanAnswer::BadSensor => {
-            print_number(31);
-        }
-        ScanAnswer::BadRequest => {
-            print_number(32);
-        }
-        ScanAnswer::Unsafe => {
-            print_number(33);
-        }
+    print_behind(b' ', machine::number_of(answer) as usize);
+    if let ScanAnswer::Sent { vector, passes } = answer {
+        print_behind(b' ', vector as usize);
+        print_behind(b' ', passes as usize);
     }
-    print_number(scanned.state.past_output as usize);
-    print_number(scanned.state.past_sensor as usize);
+    print_behind(b' ', scanned.state.past_output as usize);
+    print_behind(b' ', scanned.state.past_sensor as usize);
     io::write_all(1, b",");
 }
 

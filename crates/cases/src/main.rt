@@ -1,286 +1,109 @@
-// The test program: for each file of a corpus on standard input what loading, writing back, finding each name, the verdict and a list of scans
-// answer, a line each; before that, cases made by hand. A corpus is pairs of records of a two-byte length and the bytes: a file, and scans of six bytes each.
-mod hand; // sets and states made by hand
+// The test program: cases made by hand, and then for each case of a corpus on standard input what the operations answer, in lines. A case is a
+// byte for its kind and the records of that kind.
+mod records; // reading the corpus
+mod printing; // numbers, items and sums
+mod answers; // what operations answer
+mod names; // finding by name
+mod states; // lists of scans
+mod texts; // the canonical text
+mod files; // a file, and the set that it holds
+mod buffers; // lent buffers of many sizes
+mod sets; // sets made by hand, from bytes
+mod hand; // cases made by hand
 
+use answers::print_refused;
 use loader::LoadAnswer;
-use machine::ScanAnswer;
-use scan::MOST_OUTPUTS;
-use scan::MOST_READS;
-use scan::NAME_PLACES;
+use records::record;
 use scan::Set;
-use scan::State;
-use shape::Found;
-use verdict::Verdict;
-use writer::Written;
-ghost use Prim.Native.Nat.{_<_, _≤_};
-ghost use Rattle.scan.specs.Set.{namePlaces};
 
-// The most pairs of records that are read.
-const MOST_PAIRS: u32 = 100000;
+// The kinds of cases: a file and scans, a file and a state, a file and names, a file and sizes of buffers; and a set with a state and names.
+const FILE: u8 = b'F';
 
-fn print(n: usize) {
-    io::print_decimal(1, n as u64);
-}
+const STATE: u8 = b'S';
 
-fn two(high: u8, low: u8) -> usize
-    ensures { λ r. ⌜ r < 65536 ⌝ }
-{
-    high as usize * 256 + low as usize
-}
+const NAMES: u8 = b'N';
 
-fn four(a: u8, b: u8, c: u8, d: u8) -> u32 {
-    two(a, b) as u32 * 65536 + two(c, d) as u32
-}
+const BUFFERS: u8 = b'B';
 
-// The next record, at the front of the buffer, and its length; more than the buffer has where the input ends.
-fn record(buf: &mut [u8]) -> usize {
-    let mut head = [0u8; 2];
-    if io::read_full(0, &mut head) < 2 {
-        return 65536;
-    }
-    let len = two(head[0], head[1]);
-    if len <= buf.len() {
-        io::read_full(0, &mut buf[0..len]);
-    }
-    len
-}
+const SET: u8 = b'R';
 
-// Whether the first n bytes are the same in both.
-fn is_same(a: &[u8], b: &[u8], n: usize) -> bool {
-    if a.len() < n {
-        return false;
-    }
-    if b.len() < n {
-        return false;
-    }
-    let mut same = true;
-    let mut i: usize = 0;
-    while i < n {
-        if a[i] != b[i] {
-            same = false;
-        }
-        i = i + 1;
-    }
-    same
-}
+// The most cases that are read.
+const MOST_CASES: u32 = 1000000;
 
-fn print_written(set: Set, file: &[u8]) {
-    let mut buf = io::buffer();
-    io::write_all(1, b"WRITE ");
-    let written = writer::write(set, &mut buf);
-    match written {
-        Written::Wrote(n) => {
-            print(n);
-            if n == file.len() {
-                if is_same(&buf, file, n) {
-                    io::write_all(1, b" same\n");
-                    return;
-                }
-            }
-            io::write_all(1, b" differs\n");
-        }
-        Written::BadSet => {
-            io::write_all(1, b"20\n");
-        }
-        Written::Short(n) => {
-            print(n);
-            io::write_all(1, b" 24\n");
-        }
+// What is answered of a loaded set, whose file this is, with the other record of the case.
+fn print_loaded(kind: u8, set: Set, file: &[u8], more: &[u8]) {
+    match kind {
+        FILE => files::print_file(set, file, more),
+        STATE => states::print_state(set, more),
+        NAMES => names::print_names(set, more),
+        _ => buffers::print_buffers(set, file, more),
     }
 }
 
-// How many bytes stand before the first zero.
-fn name_length(name: [u8; NAME_PLACES]) -> usize
-    ensures { λ r. ⌜ r ≤ namePlaces ⌝ }
-{
-    let mut k: usize = 0;
-    while k < NAME_PLACES {
-        if name[k] == 0 {
-            return k;
-        }
-        k = k + 1;
+fn print_case_of(kind: u8, file: &[u8], more: &[u8]) {
+    if kind == FILE {
+        files::print_line(file);
     }
-    NAME_PLACES
-}
-
-fn print_found(set: Set, name: [u8; NAME_PLACES]) {
-    let n = name_length(name);
-    if n <= NAME_PLACES {
-        let found = shape::find(set, &name[0..n]);
-        match found {
-            Found::Read(k) => {
-                io::write_all(1, b" R");
-                print(k);
-            }
-            Found::Output(k) => {
-                io::write_all(1, b" O");
-                print(k);
-            }
-            Found::BadSet => {
-                io::write_all(1, b" 20");
-            }
-            Found::BadLength => {
-                io::write_all(1, b" 40");
-            }
-            Found::Unknown => {
-                io::write_all(1, b" 41");
-            }
-        }
-    }
-}
-
-fn print_reads(set: Set) {
-    let r = set.r;
-    let mut k: usize = 0;
-    while k < MOST_READS {
-        if k < r {
-            let p = set.reads[k];
-            let name = p.name;
-            print_found(set, name);
-        }
-        k = k + 1;
-    }
-}
-
-fn print_outputs(set: Set) {
-    let n = set.n;
-    let mut k: usize = 0;
-    while k < MOST_OUTPUTS {
-        if k < n {
-            let p = set.outputs[k];
-            let name = p.name;
-            print_found(set, name);
-        }
-        k = k + 1;
-    }
-}
-
-// One scan; the state for the next.
-fn scan_one(state: State, sensor: u32, request: u16) -> State {
-    let scanned = machine::scan(state, sensor, request);
-    let answer = scanned.answer;
-    match answer {
-        ScanAnswer::Sent { vector, passes } => {
-            io::write_all(1, b" ");
-            print(vector as usize);
-            io::write_all(1, b"/");
-            print(passes as usize);
-        }
-        ScanAnswer::BadState => {
-            io::write_all(1, b" !30");
-        }
-        ScanAnswer::BadSensor => {
-            io::write_all(1, b" !31");
-        }
-        ScanAnswer::BadRequest => {
-            io::write_all(1, b" !32");
-        }
-        ScanAnswer::Unsafe => {
-            io::write_all(1, b" !33");
-        }
-    }
-    scanned.state
-}
-
-fn print_scans(start: State, calls: &[u8]) {
-    let mut state = start;
-    let mut i: usize = 0;
-    io::write_all(1, b"SCANS");
-    while i < calls.len() {
-        if 6 <= calls.len() - i {
-            let sensor = four(calls[i], calls[i + 1], calls[i + 2], calls[i + 3]);
-            let request = two(calls[i + 4], calls[i + 5]) as u16;
-            state = scan_one(state, sensor, request);
-            i = i + 6;
-        } else {
-            i = calls.len();
-        }
-    }
-    io::write_all(1, b"\n");
-}
-
-fn print_verdict(set: Set, calls: &[u8]) {
-    let mut scratch = io::buffer();
-    let started = start::start(set, &mut scratch);
-    let v = started.verdict;
-    match v {
-        Verdict::Accepted => {
-            io::write_all(1, b"ACCEPT\n");
-            print_scans(started.state, calls);
-        }
-        Verdict::BadSet => {
-            io::write_all(1, b"20\n");
-        }
-        Verdict::ShortScratch => {
-            io::write_all(1, b"21\n");
-        }
-        Verdict::NoVector { word } => {
-            io::write_all(1, b"NOVECTOR ");
-            print(word as usize);
-            io::write_all(1, b"\n");
-        }
-        Verdict::NoEnd { word, request } => {
-            io::write_all(1, b"NOEND ");
-            print(word as usize);
-            io::write_all(1, b" ");
-            print(request as usize);
-            io::write_all(1, b"\n");
-        }
-    }
-}
-
-// What is answered of a loaded set, whose file this is.
-fn print_loaded(set: Set, file: &[u8], calls: &[u8]) {
-    io::write_all(1, b"LOADED ");
-    print(set.r);
-    io::write_all(1, b" ");
-    print(set.n);
-    io::write_all(1, b" ");
-    print(set.m);
-    io::write_all(1, b"\n");
-    print_written(set, file);
-    io::write_all(1, b"FIND");
-    print_reads(set);
-    print_outputs(set);
-    io::write_all(1, b"\n");
-    print_verdict(set, calls);
-}
-
-fn print_file(file: &[u8], calls: &[u8]) {
     let loaded = loader::load(file);
     let answer = loaded.answer;
     match answer {
-        LoadAnswer::Refused { number, offset } => {
-            io::write_all(1, b"LOAD ");
-            print(number as usize);
-            io::write_all(1, b" ");
-            print(offset);
-            io::write_all(1, b"\n");
-        }
-        LoadAnswer::Loaded => print_loaded(loaded.set, file, calls),
+        LoadAnswer::Refused { number, offset } => print_refused(number, offset),
+        LoadAnswer::Loaded => print_loaded(kind, loaded.set, file, more),
     }
 }
 
-// One pair of records; whether there was one.
-fn print_pair() -> bool {
+// A case of a file and another record; whether both were there.
+fn print_file_case(kind: u8) -> bool {
     let mut file = io::large_buffer();
-    let mut calls = io::buffer();
+    let mut more = io::buffer();
     let n = record(&mut file);
-    let m = record(&mut calls);
+    let m = record(&mut more);
     if n <= 65535 {
         if m <= 4096 {
-            print_file(&file[0..n], &calls[0..m]);
+            print_case_of(kind, &file[0..n], &more[0..m]);
             return true;
         }
     }
     false
 }
 
+// A case of a set, words and names; whether all were there.
+fn print_set_case() -> bool {
+    let mut set = io::buffer();
+    let mut words = io::buffer();
+    let mut names = io::buffer();
+    let s = record(&mut set);
+    let w = record(&mut words);
+    let n = record(&mut names);
+    if s == sets::SET_BYTES {
+        if w <= 4096 {
+            if n <= 4096 {
+                sets::print_set(&set[0..s], &words[0..w], &names[0..n]);
+                return true;
+            }
+        }
+    }
+    false
+}
+
+// The next case; whether there was one.
+fn print_case() -> bool {
+    let mut kind = [0u8; 1];
+    if io::read_full(0, &mut kind) < 1 {
+        return false;
+    }
+    match kind[0] {
+        FILE | STATE | NAMES | BUFFERS => print_file_case(kind[0]),
+        SET => print_set_case(),
+        _ => false,
+    }
+}
+
 fn main() {
     hand::print_all();
-    let mut left = MOST_PAIRS;
+    let mut left = MOST_CASES;
     while 0 < left {
-        if print_pair() {
+        if print_case() {
             left = left - 1;
         } else {
             left = 0;

@@ -2,7 +2,9 @@
 mod point; // the bodies of read points and outputs
 mod step; // the fields of read points and outputs
 mod loader; // the whole file, front to back
+mod told; // the numbers of its answers
 
 pub use loader::LoadAnswer;
 pub use loader::Loaded;
 pub use loader::load;
+pub use told::number_of;

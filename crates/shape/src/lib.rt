@@ -2,6 +2,7 @@
 mod names; // names: padding, comparing, the first point of a name
 mod shape; // when a set is well formed
 mod finding; // finding a point by its name
+mod told; // the numbers of its answers
 
 pub use finding::Found;
 pub use finding::find;
@@ -14,3 +15,4 @@ pub use names::spell;
 pub use shape::are_counts_ok;
 pub use shape::is_sensor;
 pub use shape::well_formed;
+pub use told::number_of;

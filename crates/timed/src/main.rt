@@ -22,6 +22,9 @@ const WRITE: u8 = 4;
 // The bytes of one scan: the sensor word and the request.
 const SCAN_BYTES: usize = 6;
 
+// Where a checksum begins: not at 0, which answers of 0 would leave as it is however many they are.
+const SUM_BEGIN: u32 = 1;
+
 fn two(high: u8, low: u8) -> u16 {
     high as u16 * 256 + low as u16
 }
@@ -44,31 +47,23 @@ fn mix16(sum: u32, x: u16) -> u32 {
 }
 
 fn mix_verdict(sum: u32, v: Verdict) -> u32 {
+    let told = mix8(sum, verdict::number_of(v));
     match v {
-        Verdict::Accepted => mix(sum, 1),
-        Verdict::BadSet => mix(sum, 20),
-        Verdict::ShortScratch => mix(sum, 21),
-        Verdict::NoVector { word } => mix(mix(sum, 22), word),
-        Verdict::NoEnd { word, request } => mix16(mix(mix(sum, 23), word), request),
+        Verdict::NoVector { word } => mix(told, word),
+        Verdict::NoEnd { word, request } => mix16(mix(told, word), request),
+        _ => told,
     }
 }
 
 fn mix_scan(sum: u32, answer: ScanAnswer) -> u32 {
     match answer {
         ScanAnswer::Sent { vector, passes } => mix16(mix16(sum, vector), passes),
-        ScanAnswer::BadState => mix(sum, 30),
-        ScanAnswer::BadSensor => mix(sum, 31),
-        ScanAnswer::BadRequest => mix(sum, 32),
-        ScanAnswer::Unsafe => mix(sum, 33),
+        _ => mix8(sum, machine::number_of(answer)),
     }
 }
 
 fn mix_written(sum: u32, written: Written) -> u32 {
-    match written {
-        Written::Wrote(_) => mix(sum, 1),
-        Written::BadSet => mix(sum, 20),
-        Written::Short(_) => mix(sum, 24),
-    }
+    mix8(sum, writer::number_of(written))
 }
 
 // The checksum with a place of each array of the set: other places at each turn, so that the whole set has to be made.
@@ -86,7 +81,7 @@ fn mix_set(sum: u32, set: Set, turn: u32) -> u32 {
 }
 
 fn judge_often(set: Set, times: u32, scratch: &mut [u8]) -> u32 {
-    let mut sum: u32 = 0;
+    let mut sum = SUM_BEGIN;
     let mut left = times;
     while 0 < left {
         sum = mix_verdict(sum, verdict::judge(set, &mut *scratch));
@@ -98,7 +93,7 @@ fn judge_often(set: Set, times: u32, scratch: &mut [u8]) -> u32 {
 // The list of scans, `times` times, each scan of the state that the one before returned.
 fn scan_often(start: State, times: u32, calls: &[u8]) -> u32 {
     let mut state = start;
-    let mut sum: u32 = 0;
+    let mut sum = SUM_BEGIN;
     let mut left = times;
     while 0 < left {
         let mut i: usize = 0;
@@ -154,7 +149,7 @@ fn mix_loaded(sum: u32, file: &[u8], turn: u32) -> u32 {
 }
 
 fn load_often(file: &[u8], times: u32) -> u32 {
-    let mut sum: u32 = 0;
+    let mut sum = SUM_BEGIN;
     let mut left = times;
     while 0 < left {
         sum = mix_loaded(sum, file, left);
@@ -173,7 +168,7 @@ fn mix_byte(sum: u32, buf: &[u8], at: usize) -> u32 {
 
 // The set written over and over into one buffer. A byte of it, another one at each turn, goes into the checksum.
 fn write_often(set: Set, times: u32, buf: &mut [u8]) -> u32 {
-    let mut sum: u32 = 0;
+    let mut sum = SUM_BEGIN;
     let mut left = times;
     while 0 < left {
         sum = mix_written(sum, writer::write(set, &mut *buf));

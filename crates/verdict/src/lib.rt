@@ -1,6 +1,8 @@
 // The verdict on a set at commissioning. Above the scan part, whose promises it uses.
 mod marks; // marks in the scratch: the vectors known to reach a safe one
 mod verdict; // the verdict
+mod told; // the numbers of verdicts
 
+pub use told::number_of;
 pub use verdict::Verdict;
 pub use verdict::judge;

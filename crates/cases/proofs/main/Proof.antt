@@ -16,8 +16,8 @@ print-all-requires c κs = search needs
 loop-holds : tie.Need-loop-holds Inv-loop μ-loop
 loop-holds c = search needs
 
-print-pair-requires : tie.Need-print-pair-requires Inv-loop μ-loop
-print-pair-requires c κs = search needs
+print-case-requires : tie.Need-print-case-requires Inv-loop μ-loop
+print-case-requires c κs = search needs
 
 sub-left : tie.Need-sub-left Inv-loop μ-loop
 sub-left c = search needs
@@ -45,7 +45,7 @@ main-spec =
     μ-loop
     print-all-requires
     loop-holds
-    print-pair-requires
+    print-case-requires
     sub-left
     loop-less
     loop-again

@@ -1,9 +1,9 @@
--- `cases::print_outputs` does nothing undefined and ends. Assumes nothing.
+-- `cases::names::print_outputs` does nothing undefined and ends. Assumes nothing.
 use Prim.Native.Nat.{_≤_, _-_}
 use Rattle.scan.specs.Set.{mostOutputs}
 use borrow.Author.Needs.{needs}
-use Rattle.cases.proofs.print_outputs.Statement.{statement}
-use Rattle.cases.proofs.print_outputs.Tie as tie
+use Rattle.cases.proofs.names.print_outputs.Statement.{statement}
+use Rattle.cases.proofs.names.print_outputs.Tie as tie
 
 abbrev Inv-loop : tie.InvT-loop
 Inv-loop set n k₀ k = k ≤ mostOutputs
@@ -20,8 +20,8 @@ mul-p c = search needs
 element-copy-out-p : tie.Need-element-copy-out-p Inv-loop μ-loop
 element-copy-out-p c = search needs
 
-print-found-requires : tie.Need-print-found-requires Inv-loop μ-loop
-print-found-requires c κs = search needs
+print-own-requires : tie.Need-print-own-requires Inv-loop μ-loop
+print-own-requires c κs = search needs
 
 add-k : tie.Need-add-k Inv-loop μ-loop
 add-k c = search needs
@@ -44,7 +44,7 @@ print-outputs-spec =
     loop-holds
     mul-p
     element-copy-out-p
-    print-found-requires
+    print-own-requires
     add-k
     loop-less
     loop-again

@@ -1,9 +1,9 @@
--- `cases::name_length` does nothing undefined and ends. Assumes nothing.
+-- `cases::names::name_length` does nothing undefined and ends. Assumes nothing.
 use Prim.Native.Nat.{_≤_, _-_}
 use Rattle.scan.specs.Set.{namePlaces}
 use borrow.Author.Needs.{needs}
-use Rattle.cases.proofs.name_length.Statement.{statement}
-use Rattle.cases.proofs.name_length.Tie as tie
+use Rattle.cases.proofs.names.name_length.Statement.{statement}
+use Rattle.cases.proofs.names.name_length.Tie as tie
 
 abbrev Inv-loop : tie.InvT-loop
 Inv-loop name k₀ k = k ≤ namePlaces
