@@ -1,3 +1,3 @@
-pub mod TextLaws
+pub mod DraftLaws
 pub mod LineLaws
 pub mod LoadedSets

@@ -1,14 +1,14 @@
-// The line is made as a text first, and then put into the lent buffer.
-use super::text::Text;
-use super::text::with_byte;
-use super::text::with_number;
-use super::text::word_text;
+// The line is made as a draft first, and then put into the lent buffer.
+use super::draft::Draft;
+use super::draft::with_byte;
+use super::draft::with_number;
+use super::draft::word_draft;
 ghost use mathlib.Core.Path.{_≡_};
 ghost use Prim.Native.Nat.{_+_, _≤_};
 ghost use lib.ListN.{length};
 ghost use Rattle.writer.specs.way.Write.{putAt};
 ghost use Rattle.line.specs.Line.{lineBytes, lineAnswer, bufferAfter};
-ghost use Rattle.line.specs.way.Text.{textBytes};
+ghost use Rattle.line.specs.way.Draft.{draftBytes};
 
 // Accepted, with the counts of read points, outputs and constraints; or the refusal of the load and its offset; or why the verdict rejects the set.
 pub enum Line {
@@ -19,38 +19,38 @@ pub enum Line {
 }
 
 // The line's bytes.
-fn line_text(line: Line) -> Text
-    ensures { λ x. ⌜ (x .len ≤ 80) × (textBytes x ≡ lineBytes line) ⌝ }
+fn line_draft(line: Line) -> Draft
+    ensures { λ x. ⌜ (x .len ≤ 80) × (draftBytes x ≡ lineBytes line) ⌝ }
 {
     match line {
         Line::Accept { r, n, m } => {
-            let t = with_number(word_text(*b"ACCEPT\0\0", 6), r);
+            let t = with_number(word_draft(*b"ACCEPT\0\0", 6), r);
             with_byte(with_number(with_number(t, n), m), 0x0A)
         },
         Line::Load { number, offset } => {
-            let t = with_number(word_text(*b"LOAD\0\0\0\0", 4), number as usize);
+            let t = with_number(word_draft(*b"LOAD\0\0\0\0", 4), number as usize);
             with_byte(with_number(t, offset), 0x0A)
         },
         Line::NoVector { word } => {
-            let t = word_text(*b"NOVECTOR", 8);
+            let t = word_draft(*b"NOVECTOR", 8);
             with_byte(with_number(t, word as usize), 0x0A)
         },
         Line::NoEnd { word, request } => {
-            let t = with_number(word_text(*b"NOEND\0\0\0", 5), word as usize);
+            let t = with_number(word_draft(*b"NOEND\0\0\0", 5), word as usize);
             with_byte(with_number(t, request as usize), 0x0A)
         },
     }
 }
 
-// The text at the front of the buffer.
-fn put_text(buf: &mut [u8], text: Text)
-    requires { ⌜ (text .len ≤ 80) × (text .len ≤ length (now buf)) ⌝ }
-    ensures { λ _. ⌜ now (buf .exit) ≡ putAt (now (buf .entry)) 0 (textBytes text) ⌝ }
+// The draft at the front of the buffer.
+fn put_draft(buf: &mut [u8], draft: Draft)
+    requires { ⌜ (draft .len ≤ 80) × (draft .len ≤ length (now buf)) ⌝ }
+    ensures { λ _. ⌜ now (buf .exit) ≡ putAt (now (buf .entry)) 0 (draftBytes draft) ⌝ }
 {
-    let len = text.len;
+    let len = draft.len;
     let mut i: usize = 0;
     while i < len {
-        buf[i] = text.bytes[i];
+        buf[i] = draft.bytes[i];
         i = i + 1;
     }
 }
@@ -60,11 +60,11 @@ pub fn put_line(line: Line, buf: &mut [u8]) -> usize
     ensures { λ r. ⌜ r ≡ lineAnswer line (length (now (buf .entry))) ⌝ }
     ensures { λ r. ⌜ now (buf .exit) ≡ bufferAfter line (now (buf .entry)) ⌝ }
 {
-    let text = line_text(line);
-    let len = text.len;
+    let draft = line_draft(line);
+    let len = draft.len;
     if buf.len() < len {
         return 0;
     }
-    put_text(buf, text);
+    put_draft(buf, draft);
     len
 }

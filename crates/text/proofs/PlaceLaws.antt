@@ -13,17 +13,17 @@ use borrow.Author.Tests.{lt-ltb}
 use Rattle.words.specs.Loop.{joined}
 use Rattle.words.proofs.LoopTurns.{Grows, joined-grow}
 use Rattle.text.specs.Text.{spaced, linesText}
-use Rattle.text.specs.way.Place.{textEnd, next, past, putWithin, Within, lineBytes}
+use Rattle.text.specs.way.Place.{textEnd, next, placeAfter, putWithin, Within, lineBytes}
 
 -- ---- bytes behind bytes
 
-pub past-append : (at : ℕ) (x y : List ℕ) → past at (x ++ y) ≡ past (past at x) y
-unfolding past
-past-append at [] y = refl
-past-append at (b ∷ x) y = past-append (next at) x y
+pub after-append : (at : ℕ) (x y : List ℕ) → placeAfter at (x ++ y) ≡ placeAfter (placeAfter at x) y
+unfolding placeAfter
+after-append at [] y = refl
+after-append at (b ∷ x) y = after-append (next at) x y
 
-pub put-append : (buf : List ℕ) (at : ℕ) (x y : List ℕ) → putWithin buf at (x ++ y) ≡ putWithin (putWithin buf at x) (past at x) y
-unfolding past putWithin
+pub put-append : (buf : List ℕ) (at : ℕ) (x y : List ℕ) → putWithin buf at (x ++ y) ≡ putWithin (putWithin buf at x) (placeAfter at x) y
+unfolding placeAfter putWithin
 put-append buf at [] y = refl
 put-append buf at (b ∷ x) y = put-append (set buf at b) (next at) x y
 
@@ -35,12 +35,12 @@ put-kept buf at (b ∷ x) = put-kept (set buf at b) (next at) x ∙ length-set b
 
 -- no bytes
 pub within-none : (buf : List ℕ) (at : ℕ) → Within buf at [] buf at
-unfolding past putWithin
+unfolding placeAfter putWithin
 within-none buf at = (refl, refl)
 
 -- one byte
 pub within-one : (buf : List ℕ) (at b : ℕ) (after : List ℕ) (place : ℕ) → after ≡ set buf at b → place ≡ next at → Within buf at (b ∷ []) after place
-unfolding past putWithin
+unfolding placeAfter putWithin
 within-one buf at b after place e p = (e, p)
 
 -- bytes put behind bytes, and the place behind both
@@ -48,7 +48,7 @@ pub within-then : (buf : List ℕ) (at : ℕ) (x y mid after : List ℕ) (middle
     → Within buf at (x ++ y) after place
 within-then buf at x y mid after middle place p q = (
   q .0 ∙ ap₂ (λ (l : List ℕ) (k : ℕ). putWithin l k y) (p .0) (p .1) ∙ sym (put-append buf at x y),
-  q .1 ∙ ap (λ (k : ℕ). past k y) (p .1) ∙ sym (past-append at x y),
+  q .1 ∙ ap (λ (k : ℕ). placeAfter k y) (p .1) ∙ sym (after-append at x y),
 )
 
 pub within-kept : (buf : List ℕ) (at : ℕ) (x after : List ℕ) (place : ℕ) → Within buf at x after place → length after ≡ length buf
@@ -92,11 +92,11 @@ next-is : (at : ℕ) → at < textEnd → next at ≡ at + 1
 unfolding next
 next-is at h = ap (λ (b : Bool). cond b (at + 1) at) (lt-ltb at textEnd h)
 
-pub past-is : (at : ℕ) (x : List ℕ) → at + length x ≤ textEnd → past at x ≡ at + length x
-unfolding past
-past-is at [] h = omega arith
-past-is at (b ∷ x) h =
-    ap (λ (k : ℕ). past k x) (next-is at (omega arith)) ∙ past-is (at + 1) x (omega arith) ∙ omega arith
+pub after-is : (at : ℕ) (x : List ℕ) → at + length x ≤ textEnd → placeAfter at x ≡ at + length x
+unfolding placeAfter
+after-is at [] h = omega arith
+after-is at (b ∷ x) h =
+    ap (λ (k : ℕ). placeAfter k x) (next-is at (omega arith)) ∙ after-is (at + 1) x (omega arith) ∙ omega arith
 
 pub put-is : (buf : List ℕ) (at : ℕ) (x : List ℕ) → at + length x ≤ textEnd → at + length x ≤ length buf
     → putWithin buf at x ≡ take at buf ++ (x ++ drop (at + length x) buf)

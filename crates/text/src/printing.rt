@@ -9,10 +9,9 @@ use shape::names_of_reads;
 use shape::well_formed;
 ghost use mathlib.Core.Path.{_≡_};
 ghost use mathlib.Core.Bool.{true};
-ghost use lib.ListN.{length, getD};
+ghost use lib.ListN.{length};
 ghost use Rattle.scan.specs.Shape.{wellFormed};
 ghost use Rattle.text.specs.Text.{textOf, textAnswer, bufferAfter};
-ghost use Rattle.text.specs.Told.{textTold};
 ghost use Rattle.text.specs.way.Place.{Within};
 
 // The length of the text; or that the set is not well formed; or the length needed, where the buffer is shorter.
@@ -20,17 +19,6 @@ pub enum TextPut {
     Put(usize),
     BadSet,
     Short(usize),
-}
-
-// The number of an answer: 20 or 24, and 0 for one that is no refusal.
-pub fn number_of(answer: TextPut) -> u8
-    ensures { λ r. ⌜ r ≡ getD (textTold answer) 0 0 ⌝ }
-{
-    match answer {
-        TextPut::Put(_) => 0,
-        TextPut::BadSet => 20,
-        TextPut::Short(_) => 24,
-    }
 }
 
 // The text of the set at the front of the buffer, later bytes untouched; on a refusal the buffer is untouched.

@@ -28,9 +28,9 @@ unfoldable pub next : ℕ → ℕ
 next at = cond (ltb at textEnd) (at + 1) at
 
 -- the place behind bytes
-unfoldable pub past : ℕ → List ℕ → ℕ
-past at [] = at
-past at (b ∷ bytes) = past (next at) bytes
+unfoldable pub placeAfter : ℕ → List ℕ → ℕ
+placeAfter at [] = at
+placeAfter at (b ∷ bytes) = placeAfter (next at) bytes
 
 -- the buffer with bytes put at a place, as far as it has one for them
 unfoldable pub putWithin : List ℕ → ℕ → List ℕ → List ℕ
@@ -39,7 +39,7 @@ putWithin buf at (b ∷ bytes) = putWithin (set buf at b) (next at) bytes
 
 -- bytes were put at a place: the buffer after that, and the place behind them
 abbrev pub Within : List ℕ → ℕ → List ℕ → List ℕ → ℕ → Type 0
-Within buf at bytes after place = (after ≡ putWithin buf at bytes) × (place ≡ past at bytes)
+Within buf at bytes after place = (after ≡ putWithin buf at bytes) × (place ≡ placeAfter at bytes)
 
 -- a literal: name, state and rank, if it is there, with `and` before it where others are
 abbrev pub literalIf : Bool → Bool → List ℕ → Bool → Bool → ℕ → List (List ℕ)

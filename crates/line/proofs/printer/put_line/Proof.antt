@@ -12,26 +12,26 @@ use borrow.Author.Needs.{needs}
 use Rattle.line.proofs.printer.put_line.Statement.{statement}
 use Rattle.line.proofs.printer.put_line.Tie as tie
 
-long : (c : tie.After-line-text) → length (c .line-text .result .bytes) ≡ 80
+long : (c : tie.After-line-draft) → length (c .line-draft .result .bytes) ≡ 80
 long c = search (needs, mapped-long)
 
--- the text is as long as the line
-counted : (c : tie.After-line-text) → c .line-text .result .len ≡ length (lineBytes (c .before .before .args .line))
+-- the draft is as long as the line
+counted : (c : tie.After-line-draft) → c .line-draft .result .len ≡ length (lineBytes (c .before .before .args .line))
 counted c =
-    let t = c .line-text .result in
-    sym (length-take-le (t .len) (t .bytes) (omega (arith, long c, c .line-text .ensures .0))) ∙ ap length (c .line-text .ensures .1)
+    let t = c .line-draft .result in
+    sym (length-take-le (t .len) (t .bytes) (omega (arith, long c, c .line-draft .ensures .0))) ∙ ap length (c .line-draft .ensures .1)
 
-line-text-requires : tie.Need-line-text-requires
-line-text-requires c κs = search needs
+line-draft-requires : tie.Need-line-draft-requires
+line-draft-requires c κs = search needs
 
 returns : tie.Need-returns
 returns c =
     let t = c .before in
     let a = t .before .before .args in
-    too-short (a .line) (now (a .buf)) (t .line-text .result .len) (counted t) (c .if1 .taken)
+    too-short (a .line) (now (a .buf)) (t .line-draft .result .len) (counted t) (c .if1 .taken)
 
-put-text-requires : tie.Need-put-text-requires
-put-text-requires c κs = (c .before .before .line-text .ensures .0, omega (arith, c .before .if1 .left))
+put-draft-requires : tie.Need-put-draft-requires
+put-draft-requires c κs = (c .before .before .line-draft .ensures .0, omega (arith, c .before .if1 .left))
 
 same-length : tie.Need-same-length
 same-length c = search needs
@@ -42,9 +42,9 @@ returns-2 c =
     let e = p .before .before in
     let t = e .before in
     let a = t .before .before .args in
-    printed (a .line) (now (a .buf)) (t .line-text .result .len) (counted t) (omega (arith, e .if1 .left)) _
-    (p .put-text .ensures ∙ ap (putAt (now (a .buf)) 0) (t .line-text .ensures .1))
+    printed (a .line) (now (a .buf)) (t .line-draft .result .len) (counted t) (omega (arith, e .if1 .left)) _
+    (p .put-draft .ensures ∙ ap (putAt (now (a .buf)) 0) (t .line-draft .ensures .1))
 
 pub put-line-spec : {M : Type 1} → statement M
 put-line-spec =
-    tie.close (tie.spec line-text-requires returns put-text-requires same-length returns-2)
+    tie.close (tie.spec line-draft-requires returns put-draft-requires same-length returns-2)

@@ -5,7 +5,7 @@ use native.Mathlib.Nat.{zero-add}
 use native.Mathlib.Omega.{arith}
 use lib.ListN.{length}
 use Rattle.text.specs.Text.{textOf}
-use Rattle.text.proofs.PlaceLaws.{past-is}
+use Rattle.text.proofs.PlaceLaws.{after-is}
 use Rattle.text.proofs.TextLaws.{text-fits}
 use Rattle.text.proofs.printing.text_length.Statement.{statement}
 use Rattle.text.proofs.printing.text_length.Tie as tie
@@ -22,7 +22,7 @@ returns c =
     let s = p .before .before in
     let text = textOf (s .args .set) in
     let fits = text-fits (s .args .set) (s .pre) in
-    p .put-lines .ensures .1 ∙ past-is 0 text (omega arith) ∙ zero-add (length text)
+    p .put-lines .ensures .1 ∙ after-is 0 text (omega arith) ∙ zero-add (length text)
 
 pub text-length-spec : {M : Type 1} → statement M
 text-length-spec = tie.close (tie.spec slice-aggregate-put-lines put-lines-requires returns)

@@ -1,16 +1,16 @@
--- `line::text::word_text` meets its contract. The loop's invariant: the text is the word's first k bytes. Assumes nothing.
+-- `line::draft::word_draft` meets its contract. The loop's invariant: the draft is the word's first k bytes. Assumes nothing.
 use borrow.Author.Needs.{needs}
 use mathlib.Core.Path.{_≡_, ap, _∙_}
 use Prim.Native.Nat.{ℕ, _-_, _≤_}
 use native.Mathlib.Omega.{arith}
 use lib.ListN.{length, take}
-use Rattle.line.specs.way.Text.{textBytes}
-use Rattle.line.proofs.TextLaws.{word-more}
-use Rattle.line.proofs.text.word_text.Statement.{statement}
-use Rattle.line.proofs.text.word_text.Tie as tie
+use Rattle.line.specs.way.Draft.{draftBytes}
+use Rattle.line.proofs.DraftLaws.{word-more}
+use Rattle.line.proofs.draft.word_draft.Statement.{statement}
+use Rattle.line.proofs.draft.word_draft.Tie as tie
 
 abbrev Inv-loop : tie.InvT-loop
-Inv-loop len word t₀ k₀ t k = (k ≤ len) × (t .len ≡ k) × (textBytes t ≡ take k word)
+Inv-loop len word t₀ k₀ t k = (k ≤ len) × (t .len ≡ k) × (draftBytes t ≡ take k word)
 
 abbrev μ-loop : tie.MeasureT-loop
 μ-loop len word t₀ k₀ t k = len - k
@@ -18,11 +18,11 @@ abbrev μ-loop : tie.MeasureT-loop
 word-long : (c : tie.Start Inv-loop μ-loop) → length (c .args .t1) ≡ 8
 word-long c = search needs
 
-empty-text-requires : tie.Need-empty-text-requires Inv-loop μ-loop
-empty-text-requires c κs = search needs
+empty-draft-requires : tie.Need-empty-draft-requires Inv-loop μ-loop
+empty-draft-requires c κs = search needs
 
 loop-holds : tie.Need-loop-holds Inv-loop μ-loop
-loop-holds c = (search needs, c .empty-text .ensures .0, c .empty-text .ensures .1)
+loop-holds c = (search needs, c .empty-draft .ensures .0, c .empty-draft .ensures .1)
 
 array-read-c : tie.Need-array-read-c Inv-loop μ-loop
 array-read-c c = search needs
@@ -42,7 +42,7 @@ loop-again c =
     let w = c .before .before .before .before .args in (
       omega arith,
       omega (arith, c .with-byte .ensures .0),
-      word-more (textBytes (l .t)) _ (w .t1) (l .k) (omega (arith, word-long (c .before .before .before .before))) (l .inv .2) (c .with-byte .ensures .1),
+      word-more (draftBytes (l .t)) _ (w .t1) (l .k) (omega (arith, word-long (c .before .before .before .before))) (l .inv .2) (c .with-byte .ensures .1),
     )
 
 returns : tie.Need-returns Inv-loop μ-loop
@@ -52,13 +52,13 @@ returns c =
     let e : l .k ≡ a .len = omega arith in
     (omega arith, l .inv .2 ∙ ap (λ (k : ℕ). take k (a .t1)) e)
 
-pub word-text-spec : {M : Type 1} → statement M
-word-text-spec =
+pub word-draft-spec : {M : Type 1} → statement M
+word-draft-spec =
     tie.close
     (tie.spec
     Inv-loop
     μ-loop
-    empty-text-requires
+    empty-draft-requires
     loop-holds
     array-read-c
     with-byte-requires

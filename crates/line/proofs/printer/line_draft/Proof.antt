@@ -1,16 +1,16 @@
--- `line::printer::line_text` meets its contract: for each line its word, its numbers and the line's end, one behind the other. Assumes nothing.
+-- `line::printer::line_draft` meets its contract: for each line its word, its numbers and the line's end, one behind the other. Assumes nothing.
 use native.Mathlib.Omega.{arith}
-use Rattle.line.specs.way.Text.{textBytes}
+use Rattle.line.specs.way.Draft.{draftBytes}
 use Rattle.line.proofs.LineLaws.{accept-made, load-made, no-vector-made, no-end-made}
 use borrow.Author.Needs.{needs}
-use Rattle.line.proofs.printer.line_text.Statement.{statement}
-use Rattle.line.proofs.printer.line_text.Tie as tie
+use Rattle.line.proofs.printer.line_draft.Statement.{statement}
+use Rattle.line.proofs.printer.line_draft.Tie as tie
 
 enum-known-line : tie.Need-enum-known-line
 enum-known-line c = search needs
 
-word-text-requires : tie.Need-word-text-requires
-word-text-requires c κs = search needs
+word-draft-requires : tie.Need-word-draft-requires
+word-draft-requires c κs = search needs
 
 with-number-requires : tie.Need-with-number-requires
 with-number-requires c κs = search needs
@@ -27,8 +27,8 @@ with-byte-requires c κs = search needs
 enum-known-line-2 : tie.Need-enum-known-line-2
 enum-known-line-2 c = search needs
 
-word-text-requires-2 : tie.Need-word-text-requires-2
-word-text-requires-2 c κs = search needs
+word-draft-requires-2 : tie.Need-word-draft-requires-2
+word-draft-requires-2 c κs = search needs
 
 cast-with-number : tie.Need-cast-with-number
 cast-with-number c = search needs
@@ -45,8 +45,8 @@ with-byte-requires-2 c κs = search needs
 enum-known-line-3 : tie.Need-enum-known-line-3
 enum-known-line-3 c = search needs
 
-word-text-requires-3 : tie.Need-word-text-requires-3
-word-text-requires-3 c κs = search needs
+word-draft-requires-3 : tie.Need-word-draft-requires-3
+word-draft-requires-3 c κs = search needs
 
 cast-with-number-2 : tie.Need-cast-with-number-2
 cast-with-number-2 c = search needs
@@ -60,8 +60,8 @@ with-byte-requires-3 c κs = search needs
 enum-known-line-4 : tie.Need-enum-known-line-4
 enum-known-line-4 c = search needs
 
-word-text-requires-4 : tie.Need-word-text-requires-4
-word-text-requires-4 c κs = search needs
+word-draft-requires-4 : tie.Need-word-draft-requires-4
+word-draft-requires-4 c κs = search needs
 
 cast-with-number-3 : tie.Need-cast-with-number-3
 cast-with-number-3 c = search needs
@@ -86,11 +86,11 @@ returns c =
     let w = x1 .before in
     let g = w .before .before .before .before in
     let l = g .before .before .args .line in (
-      omega (arith, w .word-text .ensures .0, x1 .with-number .ensures .0, x2 .with-number2 .ensures .0, x3 .with-number3 .ensures .0, c .with-byte .ensures .0),
+      omega (arith, w .word-draft .ensures .0, x1 .with-number .ensures .0, x2 .with-number2 .ensures .0, x3 .with-number3 .ensures .0, c .with-byte .ensures .0),
       accept-made l _ _ _
-          (textBytes (w .word-text .result)) (textBytes (x1 .with-number .result)) (textBytes (x2 .with-number2 .result)) (textBytes (x3 .with-number3 .result)) (textBytes (c .with-byte .result))
+          (draftBytes (w .word-draft .result)) (draftBytes (x1 .with-number .result)) (draftBytes (x2 .with-number2 .result)) (draftBytes (x3 .with-number3 .result)) (draftBytes (c .with-byte .result))
           (g .line .given .1)
-          (w .word-text .ensures .1)
+          (w .word-draft .ensures .1)
           (x1 .with-number .ensures .1)
           (x2 .with-number2 .ensures .1)
           (x3 .with-number3 .ensures .1)
@@ -104,11 +104,11 @@ returns-2 c =
     let w = x1 .before in
     let g = w .before .before .before .before in
     let l = g .before .before .args .line in (
-      omega (arith, w .word-text2 .ensures .0, x1 .with-number4 .ensures .0, x2 .with-number5 .ensures .0, c .with-byte2 .ensures .0),
+      omega (arith, w .word-draft2 .ensures .0, x1 .with-number4 .ensures .0, x2 .with-number5 .ensures .0, c .with-byte2 .ensures .0),
       load-made l _ _
-          (textBytes (w .word-text2 .result)) (textBytes (x1 .with-number4 .result)) (textBytes (x2 .with-number5 .result)) (textBytes (c .with-byte2 .result))
+          (draftBytes (w .word-draft2 .result)) (draftBytes (x1 .with-number4 .result)) (draftBytes (x2 .with-number5 .result)) (draftBytes (c .with-byte2 .result))
           (g .line2 .given .1)
-          (w .word-text2 .ensures .1)
+          (w .word-draft2 .ensures .1)
           (x1 .with-number4 .ensures .1)
           (x2 .with-number5 .ensures .1)
           (c .with-byte2 .ensures .1),
@@ -120,11 +120,11 @@ returns-3 c =
     let w = x1 .before in
     let g = w .before .before .before .before in
     let l = g .before .before .args .line in (
-      omega (arith, w .word-text3 .ensures .0, x1 .with-number6 .ensures .0, c .with-byte3 .ensures .0),
+      omega (arith, w .word-draft3 .ensures .0, x1 .with-number6 .ensures .0, c .with-byte3 .ensures .0),
       no-vector-made l _
-          (textBytes (w .word-text3 .result)) (textBytes (x1 .with-number6 .result)) (textBytes (c .with-byte3 .result))
+          (draftBytes (w .word-draft3 .result)) (draftBytes (x1 .with-number6 .result)) (draftBytes (c .with-byte3 .result))
           (g .line3 .given .1)
-          (w .word-text3 .ensures .1)
+          (w .word-draft3 .ensures .1)
           (x1 .with-number6 .ensures .1)
           (c .with-byte3 .ensures .1),
     )
@@ -136,39 +136,39 @@ returns-4 c =
     let w = x1 .before in
     let g = w .before .before .before .before in
     let l = g .before .before .args .line in (
-      omega (arith, w .word-text4 .ensures .0, x1 .with-number7 .ensures .0, x2 .with-number8 .ensures .0, c .with-byte4 .ensures .0),
+      omega (arith, w .word-draft4 .ensures .0, x1 .with-number7 .ensures .0, x2 .with-number8 .ensures .0, c .with-byte4 .ensures .0),
       no-end-made l _ _
-          (textBytes (w .word-text4 .result)) (textBytes (x1 .with-number7 .result)) (textBytes (x2 .with-number8 .result)) (textBytes (c .with-byte4 .result))
+          (draftBytes (w .word-draft4 .result)) (draftBytes (x1 .with-number7 .result)) (draftBytes (x2 .with-number8 .result)) (draftBytes (c .with-byte4 .result))
           (g .line4 .given .1)
-          (w .word-text4 .ensures .1)
+          (w .word-draft4 .ensures .1)
           (x1 .with-number7 .ensures .1)
           (x2 .with-number8 .ensures .1)
           (c .with-byte4 .ensures .1),
     )
 
-pub line-text-spec : {M : Type 1} → statement M
-line-text-spec =
+pub line-draft-spec : {M : Type 1} → statement M
+line-draft-spec =
     tie.close
     (tie.spec
     enum-known-line
-    word-text-requires
+    word-draft-requires
     with-number-requires
     with-number-requires-2
     with-number-requires-3
     with-byte-requires
     enum-known-line-2
-    word-text-requires-2
+    word-draft-requires-2
     cast-with-number
     with-number-requires-4
     with-number-requires-5
     with-byte-requires-2
     enum-known-line-3
-    word-text-requires-3
+    word-draft-requires-3
     cast-with-number-2
     with-number-requires-6
     with-byte-requires-3
     enum-known-line-4
-    word-text-requires-4
+    word-draft-requires-4
     cast-with-number-3
     with-number-requires-7
     cast-with-number-4

@@ -1,4 +1,4 @@
--- `line::printer::put_text` meets its contract. The loop's invariant: the text's first i bytes are in place. Assumes nothing.
+-- `line::printer::put_draft` meets its contract. The loop's invariant: the draft's first i bytes are in place. Assumes nothing.
 use borrow.Author.Needs.{needs}
 use mathlib.Core.Path.{_≡_, _∙_, ap}
 use mathlib.Core.List.{List}
@@ -11,14 +11,14 @@ use Rattle.words.proofs.ListLaws.{mapped-long}
 use Rattle.writer.specs.way.Write.{putAt}
 use Rattle.writer.proofs.WriteLaws.{put-nothing, put-kept}
 use Rattle.line.proofs.LineLaws.{put-front}
-use Rattle.line.proofs.printer.put_text.Statement.{statement}
-use Rattle.line.proofs.printer.put_text.Tie as tie
+use Rattle.line.proofs.printer.put_draft.Statement.{statement}
+use Rattle.line.proofs.printer.put_draft.Tie as tie
 
 abbrev Inv-loop : tie.InvT-loop
-Inv-loop buf₀ text len i₀ buf i = (i ≤ len) × (buf ≡ putAt buf₀ 0 (take i (text .bytes)))
+Inv-loop buf₀ draft len i₀ buf i = (i ≤ len) × (buf ≡ putAt buf₀ 0 (take i (draft .bytes)))
 
 abbrev μ-loop : tie.MeasureT-loop
-μ-loop buf₀ text len i₀ buf i = len - i
+μ-loop buf₀ draft len i₀ buf i = len - i
 
 long : (c : tie.Start Inv-loop μ-loop) → length (c .args .t2 .bytes) ≡ 80
 long c = search (needs, mapped-long)
@@ -64,8 +64,8 @@ returns c =
     let e : c .before .loop .i ≡ a .t2 .len = omega arith in
     c .before .loop .inv .1 ∙ ap (λ (k : ℕ). putAt (now (a .buf)) 0 (take k (a .t2 .bytes))) e
 
-pub put-text-spec : {M : Type 1} → statement M
-put-text-spec =
+pub put-draft-spec : {M : Type 1} → statement M
+put-draft-spec =
     tie.close
     (tie.spec
     Inv-loop

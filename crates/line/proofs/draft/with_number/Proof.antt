@@ -1,4 +1,4 @@
--- `line::text::with_number` meets its contract. The loop's invariant: the text, with the digits from place k on, is the text with the space and all digits.
+-- `line::draft::with_number` meets its contract. The loop's invariant: the draft, with the digits from place k on, is the draft with the space and all digits.
 -- Assumes nothing.
 use borrow.Author.Needs.{needs}
 use mathlib.Core.Path.{_≡_, ap}
@@ -8,13 +8,13 @@ use native.Mathlib.Omega.{arith}
 use lib.ListN.{length, drop}
 use Rattle.words.proofs.ListLaws.{mapped-long}
 use Rattle.decimal.specs.Decimal.{decimal}
-use Rattle.line.specs.way.Text.{textBytes}
-use Rattle.line.proofs.TextLaws.{rest-more, rest-none, spaced-made}
-use Rattle.line.proofs.text.with_number.Statement.{statement}
-use Rattle.line.proofs.text.with_number.Tie as tie
+use Rattle.line.specs.way.Draft.{draftBytes}
+use Rattle.line.proofs.DraftLaws.{rest-more, rest-none, spaced-made}
+use Rattle.line.proofs.draft.with_number.Statement.{statement}
+use Rattle.line.proofs.draft.with_number.Tie as tie
 
 abbrev Inv-loop : tie.InvT-loop
-Inv-loop n digits more₀ k₀ more k = (digits .at ≤ k) × (k ≤ 20) × (more .len ≡ more₀ .len + (k - digits .at)) × (textBytes more ++ drop k (digits .bytes) ≡ textBytes more₀ ++ decimal n)
+Inv-loop n digits more₀ k₀ more k = (digits .at ≤ k) × (k ≤ 20) × (more .len ≡ more₀ .len + (k - digits .at)) × (draftBytes more ++ drop k (digits .bytes) ≡ draftBytes more₀ ++ decimal n)
 
 abbrev μ-loop : tie.MeasureT-loop
 μ-loop n digits more₀ k₀ more k = 20 - k
@@ -31,7 +31,7 @@ with-byte-requires c κs = omega arith
 loop-holds : tie.Need-loop-holds Inv-loop μ-loop
 loop-holds c =
     let d = c .before .digits-of in
-    (omega arith, d .ensures .0, omega arith, ap (λ (l : List ℕ). textBytes (c .with-byte .result) ++ l) (d .ensures .1))
+    (omega arith, d .ensures .0, omega arith, ap (λ (l : List ℕ). draftBytes (c .with-byte .result) ++ l) (d .ensures .1))
 
 element-copy-out-c : tie.Need-element-copy-out-c Inv-loop μ-loop
 element-copy-out-c c = omega arith
@@ -52,7 +52,7 @@ loop-again c =
       omega arith,
       omega arith,
       omega (arith, c .with-byte2 .ensures .0),
-      rest-more (textBytes (l .more)) _ _ (d .digits-of .result .bytes) (l .k) (omega (arith, digits-long d)) (l .inv .3) (c .with-byte2 .ensures .1),
+      rest-more (draftBytes (l .more)) _ _ (d .digits-of .result .bytes) (l .k) (omega (arith, digits-long d)) (l .inv .3) (c .with-byte2 .ensures .1),
     )
 
 returns : tie.Need-returns Inv-loop μ-loop
@@ -61,8 +61,8 @@ returns c =
     let w = c .before .before in
     let d = w .before in (
       omega (arith, w .with-byte .ensures .0),
-      spaced-made (textBytes (d .before .args .t)) (textBytes (w .with-byte .result)) (textBytes (l .more)) (d .before .args .n) (w .with-byte .ensures .1)
-          (rest-none (textBytes (l .more)) _ (d .digits-of .result .bytes) (l .k) (omega (arith, digits-long d)) (l .inv .3)),
+      spaced-made (draftBytes (d .before .args .t)) (draftBytes (w .with-byte .result)) (draftBytes (l .more)) (d .before .args .n) (w .with-byte .ensures .1)
+          (rest-none (draftBytes (l .more)) _ (d .digits-of .result .bytes) (l .k) (omega (arith, digits-long d)) (l .inv .3)),
     )
 
 pub with-number-spec : {M : Type 1} → statement M

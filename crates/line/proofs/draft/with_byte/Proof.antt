@@ -1,12 +1,12 @@
--- `line::text::with_byte` meets its contract: one store behind the text's bytes. Assumes nothing.
+-- `line::draft::with_byte` meets its contract: one store behind the draft's bytes. Assumes nothing.
 use mathlib.Core.Path.{_≡_, refl}
 use native.Mathlib.Omega.{arith}
 use lib.ListN.{length}
 use Rattle.words.proofs.ListLaws.{mapped-long}
-use Rattle.line.proofs.TextLaws.{byte-more}
+use Rattle.line.proofs.DraftLaws.{byte-more}
 use borrow.Author.Needs.{needs}
-use Rattle.line.proofs.text.with_byte.Statement.{statement}
-use Rattle.line.proofs.text.with_byte.Tie as tie
+use Rattle.line.proofs.draft.with_byte.Statement.{statement}
+use Rattle.line.proofs.draft.with_byte.Tie as tie
 
 long : (c : tie.Start) → length (c .args .t .bytes) ≡ 80
 long c = search (needs, mapped-long)

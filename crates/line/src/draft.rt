@@ -5,27 +5,27 @@ ghost use mathlib.Core.List.{[], _∷_, _++_};
 ghost use Prim.Native.Nat.{_+_, _≤_};
 ghost use lib.ListN.{length, take};
 ghost use Rattle.line.specs.Line.{spaced};
-ghost use Rattle.line.specs.way.Text.{textBytes};
+ghost use Rattle.line.specs.way.Draft.{draftBytes};
 
 // A word of at most 8 bytes, three numbers of at most 20 digits with a space before each, and the line's end fit.
 pub const LONGEST_LINE: usize = 80;
 
-pub struct Text {
+pub struct Draft {
     pub bytes: [u8; LONGEST_LINE],
     pub len: usize,
 }
 
-fn empty_text() -> Text
-    ensures { λ r. ⌜ (r .len ≡ 0) × (textBytes r ≡ []) ⌝ }
+fn empty_draft() -> Draft
+    ensures { λ r. ⌜ (r .len ≡ 0) × (draftBytes r ≡ []) ⌝ }
 {
     let bytes = [0u8; LONGEST_LINE];
-    Text { bytes, len: 0 }
+    Draft { bytes, len: 0 }
 }
 
-// The text with one byte more.
-pub fn with_byte(t: Text, byte: u8) -> Text
+// The draft with one byte more.
+pub fn with_byte(t: Draft, byte: u8) -> Draft
     requires { ⌜ t .len + 1 ≤ 80 ⌝ }
-    ensures { λ r. ⌜ (r .len ≡ t .len + 1) × (textBytes r ≡ textBytes t ++ (byte ∷ [])) ⌝ }
+    ensures { λ r. ⌜ (r .len ≡ t .len + 1) × (draftBytes r ≡ draftBytes t ++ (byte ∷ [])) ⌝ }
 {
     let len = t.len;
     let mut more = t;
@@ -35,11 +35,11 @@ pub fn with_byte(t: Text, byte: u8) -> Text
 }
 
 // The first `len` bytes of a word.
-pub fn word_text(word: [u8; 8], len: usize) -> Text
+pub fn word_draft(word: [u8; 8], len: usize) -> Draft
     requires { ⌜ len ≤ 8 ⌝ }
-    ensures { λ r. ⌜ (r .len ≡ len) × (textBytes r ≡ take len word) ⌝ }
+    ensures { λ r. ⌜ (r .len ≡ len) × (draftBytes r ≡ take len word) ⌝ }
 {
-    let mut t = empty_text();
+    let mut t = empty_draft();
     let mut k: usize = 0;
     while k < len {
         let c = word[k];
@@ -49,10 +49,10 @@ pub fn word_text(word: [u8; 8], len: usize) -> Text
     t
 }
 
-// The text with a space and a number behind it.
-pub fn with_number(t: Text, n: usize) -> Text
+// The draft with a space and a number behind it.
+pub fn with_number(t: Draft, n: usize) -> Draft
     requires { ⌜ t .len + 21 ≤ 80 ⌝ }
-    ensures { λ r. ⌜ (r .len ≤ t .len + 21) × (textBytes r ≡ textBytes t ++ spaced n) ⌝ }
+    ensures { λ r. ⌜ (r .len ≤ t .len + 21) × (draftBytes r ≡ draftBytes t ++ spaced n) ⌝ }
 {
     let digits = digits_of(n);
     let mut more = with_byte(t, 0x20);

@@ -1,4 +1,4 @@
--- What the proofs of `text` share: a byte behind others.
+-- What the proofs of `draft` share: a byte behind others.
 -- Assumes nothing.
 use mathlib.Core.Path.{_≡_, sym, ap, _∙_}
 use mathlib.Core.List.{List, [], _∷_, _++_, append-assoc, append-nil}
@@ -30,7 +30,7 @@ rest-more x y whole bytes k h e f =
 pub rest-none : (x whole bytes : List ℕ) (k : ℕ) → length bytes ≤ k → x ++ drop k bytes ≡ whole → x ≡ whole
 rest-none x whole bytes k h e = sym (append-nil x) ∙ ap (λ (l : List ℕ). x ++ l) (sym (drop-of-length-le bytes {i = k} h)) ∙ e
 
--- a space and the digits behind a text
+-- a space and the digits behind a draft
 pub spaced-made : (t x y : List ℕ) (n : ℕ) → x ≡ t ++ (0x20 ∷ []) → y ≡ x ++ decimal n → y ≡ t ++ spaced n
 unfolding spaced
 spaced-made t x y n e f = f ∙ ap (λ (l : List ℕ). l ++ decimal n) e ∙ append-assoc t (0x20 ∷ []) (decimal n)
