@@ -5,8 +5,6 @@ use scan::MOST_OUTPUTS;
 use scan::MOST_READS;
 use scan::NAME_PLACES;
 use scan::Set;
-ghost use Prim.Native.Nat.{_≤_};
-ghost use Rattle.scan.specs.Set.{namePlaces};
 
 fn wide(byte: u8) -> usize {
     byte as usize
@@ -29,22 +27,8 @@ pub fn print_names(set: Set, names: &[u8]) {
     end_line();
 }
 
-// How many bytes stand before the first zero.
-fn name_length(name: [u8; NAME_PLACES]) -> usize
-    ensures { λ r. ⌜ r ≤ namePlaces ⌝ }
-{
-    let mut k: usize = 0;
-    while k < NAME_PLACES {
-        if name[k] == 0 {
-            return k;
-        }
-        k = k + 1;
-    }
-    NAME_PLACES
-}
-
 fn print_own(set: Set, name: [u8; NAME_PLACES]) {
-    let n = name_length(name);
+    let n = shape::name_length(name);
     print_found(shape::find(set, &name[0..n]));
 }
 

@@ -7,8 +7,8 @@ use Prim.Native.Nat.{ℕ, zero, suc, _+_, _-_, _/_, _≤_, _<_}
 use native.Mathlib.Numerals.{add-one}
 use native.Mathlib.Omega.{arith}
 use borrow.Author.Tests.{eq-eqb, ne-eqb}
-use lib.ListN.{length, drop, set, length-set}
-use lib.Seq.{drop-cons, drop-set-lt, getD-set-same}
+use lib.ListN.{length, take, drop, set, replicate, length-set}
+use lib.Seq.{take-set-le, take-take, drop-cons, drop-set-lt, getD-set-same}
 use Rattle.decimal.specs.Decimal.{lastDigit, leading, decimal}
 
 -- a byte stored before those from a place on
@@ -47,3 +47,15 @@ pub digits-full : (whole bytes : List ℕ) (at n : ℕ) → at ≡ 0 → leading
 unfolding leading
 digits-full whole bytes zero n z e = e
 digits-full whole bytes (suc at) n z e = absurd (omega arith)
+
+-- one zero less
+fewer-zeros : (k : ℕ) → _≡_ {A = List ℕ} (take k (replicate (suc k) 0)) (replicate k 0)
+fewer-zeros zero = refl
+fewer-zeros (suc k) = ap (λ (l : List ℕ). 0 ∷ l) (fewer-zeros k)
+
+-- zeros stand before the digits
+pub zeros-before : (bytes : List ℕ) (at b : ℕ) → 0 < at → take at bytes ≡ replicate at 0 → take (at - 1) (set bytes (at - 1) b) ≡ replicate (at - 1) 0
+zeros-before bytes zero b p e = absurd (omega arith)
+zeros-before bytes (suc at) b p e =
+    let back : suc at - 1 ≡ at = omega arith in
+    rw back (take-set-le at bytes at b (omega arith) ∙ sym (take-take at (suc at) bytes (omega arith)) ∙ ap (take at) e ∙ fewer-zeros at)

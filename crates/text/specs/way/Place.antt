@@ -64,12 +64,13 @@ outputsBytes outputs n = linesText (map outputLine (take n outputs))
 abbrev pub pastBytes : List ℕ → List ℕ → List ℕ
 pastBytes name other = parted (past-word ∷ nameBytes name ∷ of-word ∷ nameBytes other ∷ [])
 
--- the line of a read point
+-- `sensor` and the name; `past`, the name, `of`, and the name of the output or sensor whose past it is
 abbrev pub kindLineBy : List (List ℕ) → List (List ℕ) → List ℕ → Kind → List (List ℕ)
 kindLineBy reads outputs name Sensor = sensor-word ∷ name ∷ []
 kindLineBy reads outputs name (PastOutput i) = past-word ∷ name ∷ of-word ∷ nameBytes (getD outputs i []) ∷ []
 kindLineBy reads outputs name (PastSensor i) = past-word ∷ name ∷ of-word ∷ nameBytes (getD reads i []) ∷ []
 
+-- the line of a read point
 abbrev pub readLineBy : List (List ℕ) → List (List ℕ) → ReadPoint → List (List ℕ)
 readLineBy reads outputs p = kindLineBy reads outputs (nameBytes (p .name)) (p .kind)
 
