@@ -12,6 +12,7 @@ use lib.ListN.{length, getD, take, drop, replicate, length-append, length-take, 
 use lib.Pow.{pow-mono}
 use lib.Bits.{or-lt}
 use borrow.Author.Tests.{lt-ltb, le-ltb, le-leb, lt-leb, ltb-true, ltb-false}
+use Rattle.words.proofs.ListLaws.{zeros-any}
 use Rattle.words.specs.Word.{bit}
 use Rattle.words.specs.Loop.{first, joined}
 use Rattle.words.proofs.BoolLaws.{by-test}
@@ -67,11 +68,6 @@ output-names-all names outputs ln lo same k = go (decLe mostOutputs k)
     go : Dec (mostOutputs ≤ k) → getD names k [] ≡ outputPoint outputs k .name
     go (yes h) = List·getD-eq-default names [] (omega arith) ∙ sym (ap (λ (p : OutputPoint). p .name) (List·getD-eq-default outputs noOutput (omega arith)))
     go (no h) = same k (omega arith)
-
-zeros-any : (n k : ℕ) → _≡_ {A = ℕ} (getD (replicate n 0) k 0) 0
-zeros-any zero k = refl
-zeros-any (suc n) zero = refl
-zeros-any (suc n) (suc k) = zeros-any n k
 
 module _ (s : Set) (reads outputs : List (List ℕ)) (read-same : (k : ℕ) → getD reads k [] ≡ readPoint (s .reads) k .name)
     (output-same : (k : ℕ) → getD outputs k [] ≡ outputPoint (s .outputs) k .name) where

@@ -10,6 +10,7 @@ use lib.ListN.{length, getD, replicate, length-append}
 use lib.Pow.{pow-mono}
 use lib.Bits.{bitOr, or-lt}
 use lib.Count.{ones}
+use Rattle.words.proofs.ListLaws.{zeros-any}
 use Rattle.words.specs.Word.{bit}
 use Rattle.words.specs.Loop.{count, joined}
 use Rattle.words.proofs.BitLaws.{bit-or}
@@ -29,11 +30,6 @@ literal-told : (p n : Bool) (x y z : ℕ) → cond (p || n) (cond p x y ∷ z �
 literal-told true n x y z = refl
 literal-told false true x y z = refl
 literal-told false false x y z = refl
-
-zeros-any : (n k : ℕ) → _≡_ {A = ℕ} (getD (replicate n 0) k 0) 0
-zeros-any zero k = refl
-zeros-any (suc n) zero = refl
-zeros-any (suc n) (suc k) = zeros-any n k
 
 module _ (c : Constraint) (k : ℕ) where
   read-told : literalAt 0 (c .«read_plain») (bitOr (c .«read_plain») (c .«read_negated»)) (replicate mostReads 0) k ≡ readLiteral c k
