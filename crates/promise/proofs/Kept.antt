@@ -45,6 +45,8 @@ use Rattle.promise.proofs.NameMeanings.{names-mean}
 use Rattle.promise.proofs.PlaceMeanings.{places-mean}
 use Rattle.promise.proofs.LoneRankMeanings.{lone-ranks-unread}
 use Rattle.promise.proofs.FilesSay.{file-says}
+use Rattle.promise.proofs.TextsSay.{text-says}
+use Rattle.promise.proofs.TextRefusals.{text-refusals}
 use Rattle.promise.proofs.ExactVerdicts.{told-accepted, exact-verdict, exact-start}
 use Rattle.promise.proofs.ScanLists.{sends-mean, right-scans}
 
@@ -156,4 +158,5 @@ promise = record {
   name-bytes = name-bytes-iff;
   files = file-says;
   lone-ranks = lone-ranks-unread;
+  texts = record { putting = text-refusals; says = text-says };
 }

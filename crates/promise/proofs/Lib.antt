@@ -25,5 +25,8 @@ pub mod BodyLiterals
 pub mod FirstBytes
 pub mod ConstraintsSay
 pub mod FilesSay
+pub mod TextLines
+pub mod TextsSay
+pub mod TextRefusals
 pub mod Kept
 pub mod CasesHold

@@ -19,6 +19,7 @@ use Rattle.verdict.specs.Judge.{judgeOf}
 use Rattle.start.specs.Start.{startOf}
 use Rattle.verdict.specs.Told.{verdictTold}
 use Rattle.loader.specs.Load.{loadOf}
+use Rattle.text.specs.Text.{textOf}
 use Rattle.loader.specs.Told.{loadTold}
 use Rattle.setfile.specs.SampleFile.{fileP}
 
@@ -40,6 +41,8 @@ pub data Case : Type 0 where
   loads : List ℕ → List ℕ → Case
   -- these bytes are loaded, their set is accepted, and scans from its start are answered so
   runs : List ℕ → List Call → List (List ℕ) → Case
+  -- the text of the set is these bytes
+  texts : Set → List ℕ → Case
 
 -- scratch enough
 abbrev pub enough : Set → ℕ
@@ -59,6 +62,7 @@ answered (held s w k) = (cond (bit k (F0 s w) || bit k (F1 s w)) 1 0 ∷ []) ∷
 answered (finds s bytes told) = findTold (findOf s bytes) ∷ []
 answered (loads file told) = loadTold (loadOf file .answer) ∷ []
 answered (runs file calls told) = loadTold (loadOf file .answer) ∷ started (loadOf file .set) calls
+answered (texts s text) = textOf s ∷ []
 
 -- what is to be answered
 abbrev pub expected : Case → List (List ℕ)
@@ -70,6 +74,7 @@ expected (held s w k) = (1 ∷ []) ∷ []
 expected (finds s bytes told) = told ∷ []
 expected (loads file told) = told ∷ []
 expected (runs file calls told) = (0 ∷ []) ∷ (0 ∷ []) ∷ told
+expected (texts s text) = text ∷ []
 
 -- every case of a list is answered as it is to be
 abbrev pub AllAnswered : List Case → Type 0
@@ -197,3 +202,18 @@ findCases =
     ∷ finds P (replicate 9 0) (no 40)
     ∷ finds P (replicate 8 0x7E) (no 41)
     ∷ []
+
+-- P's text, a line to a line: output 07; output 7; sensor 007; never 007 on and 7 on; never 07 on rank 0 and 7 off rank 1; end
+abbrev pub textP : List ℕ
+textP =
+    0x6F ∷ 0x75 ∷ 0x74 ∷ 0x70 ∷ 0x75 ∷ 0x74 ∷ 0x20 ∷ 0x30 ∷ 0x37 ∷ 0x0A
+    ∷ 0x6F ∷ 0x75 ∷ 0x74 ∷ 0x70 ∷ 0x75 ∷ 0x74 ∷ 0x20 ∷ 0x37 ∷ 0x0A
+    ∷ 0x73 ∷ 0x65 ∷ 0x6E ∷ 0x73 ∷ 0x6F ∷ 0x72 ∷ 0x20 ∷ 0x30 ∷ 0x30 ∷ 0x37 ∷ 0x0A
+    ∷ 0x6E ∷ 0x65 ∷ 0x76 ∷ 0x65 ∷ 0x72 ∷ 0x20 ∷ 0x30 ∷ 0x30 ∷ 0x37 ∷ 0x20 ∷ 0x6F ∷ 0x6E ∷ 0x20 ∷ 0x61 ∷ 0x6E ∷ 0x64 ∷ 0x20 ∷ 0x37 ∷ 0x20 ∷ 0x6F ∷ 0x6E ∷ 0x0A
+    ∷ 0x6E ∷ 0x65 ∷ 0x76 ∷ 0x65 ∷ 0x72 ∷ 0x20 ∷ 0x30 ∷ 0x37 ∷ 0x20 ∷ 0x6F ∷ 0x6E ∷ 0x20 ∷ 0x72 ∷ 0x61 ∷ 0x6E ∷ 0x6B ∷ 0x20 ∷ 0x30 ∷ 0x20 ∷ 0x61 ∷ 0x6E ∷ 0x64 ∷ 0x20 ∷ 0x37 ∷ 0x20 ∷ 0x6F ∷ 0x66 ∷ 0x66 ∷ 0x20 ∷ 0x72 ∷ 0x61 ∷ 0x6E ∷ 0x6B ∷ 0x20 ∷ 0x31 ∷ 0x0A
+    ∷ 0x65 ∷ 0x6E ∷ 0x64 ∷ 0x0A
+    ∷ []
+
+-- texts
+abbrev pub textCases : List Case
+textCases = texts P textP ∷ []
