@@ -26,6 +26,8 @@ pub mod FirstBytes
 pub mod ConstraintsSay
 pub mod FilesSay
 pub mod TextLines
+pub mod LineLiterals
+pub mod ConstraintsShown
 pub mod TextsSay
 pub mod TextRefusals
 pub mod Kept

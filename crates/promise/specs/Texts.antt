@@ -96,6 +96,89 @@ ReadShown s k Sensor words = words ≡ sensorWord ∷ readName s k ∷ []
 ReadShown s k (PastOutput i) words = words ≡ pastWord ∷ readName s k ∷ ofWord ∷ outputName s i ∷ []
 ReadShown s k (PastSensor i) words = words ≡ pastWord ∷ readName s k ∷ ofWord ∷ readName s i ∷ []
 
+-- ---- constraints
+
+-- a literal as it stands in a line: the word before it, its name, its state, and the digits of its rank, none where it has no rank
+pub record Shown : Type 0 where
+  pub before : List ℕ
+  pub name : List ℕ
+  pub state : List ℕ
+  pub digits : List ℕ
+
+-- the literals in words, at most so many: each is the word before it, its name and its state, and then `rank` and digits where `rank` stands there
+unfoldable pub literalsIn : ℕ → List (List ℕ) → List Shown
+literalsIn zero words = []
+literalsIn (suc most) [] = []
+literalsIn (suc most) (before ∷ words) =
+    let ranked = sameBytes (getD words 2 []) rankWord in
+    let literal : Shown = record { before = before; name = getD words 0 []; state = getD words 1 []; digits = cond ranked (getD words 3 []) [] } in
+    let more = literalsIn most (drop (cond ranked 4 2) words) in
+    literal ∷ more
+
+-- the literals of line k
+abbrev pub literalsOf : List ℕ → ℕ → List Shown
+literalsOf text k = literalsIn (length (wordsOf text k)) (wordsOf text k)
+
+-- it is one of the list
+abbrev pub Among : {A : Type 0} → A → List A → Type 0
+Among x [] = ⊥
+Among x (y ∷ l) = (y ≡ x) ⊎ Among x l
+
+-- the word stands before the first, and `and` before each later one
+abbrev pub Opened : List ℕ → List Shown → Type 0
+Opened word [] = Unit {0}
+Opened word (l ∷ ls) = (l .before ≡ word) × Opened andWord ls
+
+-- finding gives read point k for the literal's name
+abbrev pub OfRead : Set → Shown → ℕ → Type 0
+OfRead s l k = findTold (findOf s (l .name)) ≡ 0 ∷ 0 ∷ k ∷ []
+
+-- finding gives output k for it
+abbrev pub OfOutput : Set → Shown → ℕ → Type 0
+OfOutput s l k = findTold (findOf s (l .name)) ≡ 0 ∷ 1 ∷ k ∷ []
+
+-- in a word of its points: `on`, and the bit is set, or `off`, and it is not
+abbrev pub StandsIn : List ℕ → ℕ → ℕ → Type 0
+StandsIn state k word = ((state ≡ onWord) × Bit k word) ⊎ ((state ≡ offWord) × (¬ Bit k word))
+
+-- at the read word w and the vector v the literal is true: the point that bears its name stands as it says
+abbrev pub ShownTrue : Set → Shown → ℕ → ℕ → Type 0
+ShownTrue s l w v = ((k : ℕ) × OfRead s l k × StandsIn (l .state) k w) ⊎ ((k : ℕ) × OfOutput s l k × StandsIn (l .state) k v)
+
+-- a literal of the line is of read point k, in this state
+abbrev pub SaysRead : Set → List Shown → ℕ → List ℕ → Type 0
+SaysRead s line k state = (l : Shown) × Among l line × OfRead s l k × (l .state ≡ state)
+
+-- a literal of the line is of output k, in this state
+abbrev pub SaysOutput : Set → List Shown → ℕ → List ℕ → Type 0
+SaysOutput s line k state = (l : Shown) × Among l line × OfOutput s l k × (l .state ≡ state)
+
+-- one literal of constraint i
+pub record LiteralSays (s : Set) (i : ℕ) (l : Shown) : Type 0 where
+  -- it is of a point of the set, `on` or `off`
+  pub point : ((k : ℕ) × OfRead s l k) ⊎ ((k : ℕ) × OfOutput s l k)
+  pub state : (l .state ≡ onWord) ⊎ (l .state ≡ offWord)
+  -- the rank of an output is what its digits say, 0 where it has none; in a combined constraint each has its own
+  pub ranks : (k : ℕ) → OfOutput s l k → rank (constraint s i) k ≡ said (l .digits)
+  pub ranked : Combined (constraint s i) → (k : ℕ) → OfOutput s l k → 1 ≤ length (l .digits)
+  pub digits : (j : ℕ) → j < length (l .digits) → (0x30 ≤ getD (l .digits) j 0) × (getD (l .digits) j 0 ≤ 0x39)
+  -- a read point has no rank
+  pub no-rank : (k : ℕ) → OfRead s l k → l .digits ≡ []
+
+-- the line of constraint i
+pub record NeverSays (s : Set) (i : ℕ) (line : List Shown) : Type 0 where
+  -- `never` stands before the first literal, and `and` before each later one
+  pub some : 1 ≤ length line
+  pub opened : Opened neverWord line
+  -- the constraint is true at (w, v) exactly when every literal of the line is
+  pub true-when : (w v : ℕ) → TrueAt s w v i ↔ ((l : Shown) → Among l line → ShownTrue s l w v)
+  -- it names the points of these literals and no others, plain where `on` is said and negated where `off` is
+  pub read-plain : (k : ℕ) → Bit k (constraint s i .«read_plain») ↔ SaysRead s line k onWord
+  pub read-negated : (k : ℕ) → Bit k (constraint s i .«read_negated») ↔ SaysRead s line k offWord
+  pub out-plain : (k : ℕ) → Bit k (constraint s i .«out_plain») ↔ SaysOutput s line k onWord
+  pub out-negated : (k : ℕ) → Bit k (constraint s i .«out_negated») ↔ SaysOutput s line k offWord
+  pub each : (l : Shown) → Among l line → LiteralSays s i l
+
 -- ---- the whole text
 
 -- A well-formed set s, and its text.
@@ -108,6 +191,8 @@ pub record TextSays (s : Set) (text : List ℕ) : Type 0 where
   pub outputs : (j : ℕ) → j < s .n → wordsOf text j ≡ outputWord ∷ outputName s j ∷ []
   -- then the read points by number, each with its kind
   pub reads : (k : ℕ) → k < s .r → ReadShown s k (kind s k) (wordsOf text (s .n + k))
+  -- then the constraints by number
+  pub constraints : (i : ℕ) → i < s .m → NeverSays s i (literalsOf text (s .n + s .r + i))
 
 -- ---- putting the text of any set into any buffer
 
