@@ -46,6 +46,7 @@ use Rattle.promise.proofs.PlaceMeanings.{places-mean}
 use Rattle.promise.proofs.LoneRankMeanings.{lone-ranks-unread}
 use Rattle.promise.proofs.FilesSay.{file-says}
 use Rattle.promise.proofs.TextsSay.{text-says}
+use Rattle.promise.proofs.OneText.{one-set, one-text}
 use Rattle.promise.proofs.TextRefusals.{text-refusals}
 use Rattle.promise.proofs.ExactVerdicts.{told-accepted, exact-verdict, exact-start}
 use Rattle.promise.proofs.ScanLists.{sends-mean, right-scans}
@@ -158,5 +159,5 @@ promise = record {
   name-bytes = name-bytes-iff;
   files = file-says;
   lone-ranks = lone-ranks-unread;
-  texts = record { putting = text-refusals; says = text-says };
+  texts = record { putting = text-refusals; says = text-says; one-set = one-set; one-text = one-text };
 }

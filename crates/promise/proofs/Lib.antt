@@ -29,6 +29,7 @@ pub mod TextLines
 pub mod LineLiterals
 pub mod ConstraintsShown
 pub mod TextsSay
+pub mod OneText
 pub mod TextRefusals
 pub mod Kept
 pub mod CasesHold

@@ -209,8 +209,12 @@ pub record TextRefusals (s : Set) (buf : List ℕ) : Type 0 where
   -- a refusal leaves the buffer as it was
   pub untouched : ((size : ℕ) → textTold (textAnswer s (length buf)) ≢ 0 ∷ size ∷ []) → bufferAfter s buf ≡ buf
 
--- ---- both
+-- ---- all of these
 
 pub record Texts : Type 0 where
   pub putting : (s : Set) (buf : List ℕ) → TextRefusals s buf
   pub says : (s : Set) → wellFormed s ≡ true → TextSays s (textOf s)
+  -- what a text says is the whole set: no other well-formed set has it said of it
+  pub one-set : (s t : Set) → wellFormed s ≡ true → wellFormed t ≡ true → (text : List ℕ) → TextSays s text → TextSays t text → s ≡ t
+  -- so two well-formed sets with the same text are the same set
+  pub one-text : (s t : Set) → wellFormed s ≡ true → wellFormed t ≡ true → textOf s ≡ textOf t → s ≡ t
