@@ -1,6 +1,6 @@
 -- The line of a constraint in the text of a set: its literals are those of the constraint, in its points' names.
 -- Assumes nothing.
-use mathlib.Core.Path.{_≡_, refl, sym, ap, ap₂, subst, _∙_}
+use mathlib.Core.Path.{_≡_, refl, sym, ap, subst, _∙_}
 use mathlib.Core.Bool.{Bool, true, false, cond, not, _&&_, _||_}
 use mathlib.Core.List.{List, [], _∷_, _++_}
 use mathlib.Core.Logic.{_↔_, _⊎_, inl, inr, ⊎-elim}
@@ -12,7 +12,7 @@ use lib.ListN.{length, getD, length-append}
 use borrow.Author.Tests.{eqb-true}
 use Rattle.words.specs.Word.{bit}
 use Rattle.words.specs.Loop.{some, joined}
-use Rattle.words.proofs.BoolLaws.{by-test, clash, or-true, or-false, or-left, or-right}
+use Rattle.words.proofs.BoolLaws.{clash, or-true, or-false, or-left, or-right}
 use Rattle.words.proofs.BitLaws.{bit-and, bit-or, bit-below, bit-zero}
 use Rattle.words.proofs.LoopLaws.{some-true, some-bit}
 use Rattle.decimal.specs.Decimal.{lastDigit, leading, decimal}
@@ -29,12 +29,12 @@ use Rattle.shape.specs.Told.{findTold}
 use Rattle.text.specs.Grammar.{never-word, rank-word}
 use Rattle.text.specs.Text.{stateWord, behind, namedBelow, namedReads, several, readLiteral, outputLiteral, neverLine}
 use Rattle.promise.specs.Allowed.{readName, outputName}
-use Rattle.promise.specs.Terms.{Bit, Combined, IsTrue, TrueAt}
+use Rattle.promise.specs.Terms.{Bit, IsTrue}
 use Rattle.promise.specs.Texts.{neverWord, andWord, onWord, offWord, Shown, literalsIn, Among, Opened, OfRead, OfOutput, StandsIn, ShownTrue, SaysRead, SaysOutput, LiteralSays, NeverSays}
-use Rattle.promise.proofs.Bits.{bit-set, set-bit, bit-clear}
+use Rattle.promise.proofs.Bits.{bit-set, set-bit}
 use Rattle.promise.proofs.ConstraintMeanings.{combined-iff}
 use Rattle.promise.proofs.NameRefusals.{find-refusals}
-use Rattle.promise.proofs.LineLiterals.{rankBehind, ownWords, written, literals-back, written-long, hasOne, butFirst, first-never, oneIf, has-all, words-all, opened-all, among-left, among-right, among-either, among-items, items-among}
+use Rattle.promise.proofs.LineLiterals.{rankBehind, written, literals-back, written-long, hasOne, butFirst, first-never, oneIf, has-all, words-all, opened-all, among-left, among-right, among-either, among-items, items-among}
 
 -- ---- states and ranks
 

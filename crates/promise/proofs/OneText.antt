@@ -1,7 +1,7 @@
 -- What a text says is one set: two well-formed sets of which the same text says what it says are the same.
 -- Assumes nothing.
-use mathlib.Core.Path.{_≡_, refl, sym, ap, ap₂, subst, _∙_}
-use mathlib.Core.Bool.{Bool, true, false, _&&_}
+use mathlib.Core.Path.{_≡_, refl, sym, ap, subst, _∙_}
+use mathlib.Core.Bool.{true}
 use mathlib.Core.List.{List, [], _∷_, _++_}
 use mathlib.Core.Logic.{_↔_, _⊎_, inl, inr, ⊎-elim}
 use Prim.Native.Nat.{ℕ, zero, suc, _+_, _-_, _^_, _≤_, _<_}
@@ -14,23 +14,18 @@ use borrow.Author.Tests.{ltb-true}
 use Rattle.words.specs.Word.{bit}
 use Rattle.words.proofs.BoolLaws.{by-test, and-true, same-truth}
 use Rattle.words.proofs.BitLaws.{same-bits}
-use Rattle.decimal.specs.Digits.{said}
 use Rattle.scan.specs.declared.set.Kind.{Kind}
 use Rattle.scan.specs.declared.set.Kind.the-variants.{Sensor, PastOutput, PastSensor}
-use Rattle.scan.specs.declared.set.ReadPoint.{ReadPoint}
-use Rattle.scan.specs.declared.set.OutputPoint.{OutputPoint}
-use Rattle.scan.specs.declared.set.Constraint.{Constraint}
 use Rattle.scan.specs.declared.set.Set.{Set}
-use Rattle.scan.specs.Set.{readPoint, outputPoint, kind, constraint, rank, outs, noRead, noOutput, noConstraint}
+use Rattle.scan.specs.Set.{readPoint, outputPoint, kind, constraint, rank, noRead, noOutput, noConstraint}
 use Rattle.scan.specs.Shape.{kindOk, isSensor, wellFormed}
 use Rattle.scan.proofs.ShapeLaws.{masks, read-formed, points-formed}
 use Rattle.text.specs.Text.{textOf}
 use Rattle.promise.specs.Allowed.{readName, outputName}
-use Rattle.promise.specs.Terms.{Bit, NamesOutput}
-use Rattle.promise.specs.Meanings.{NamesMean, PlacesMean}
-use Rattle.promise.specs.Texts.{partsAt, linesOf, lineOf, wordsOf, outputWord, sensorWord, pastWord, ofWord, neverWord, andWord, onWord, offWord, endWord, ReadShown, Shown, literalsIn, literalsOf, Among, Opened, OfRead, OfOutput, SaysRead, SaysOutput, LiteralSays, NeverSays, TextSays}
+use Rattle.promise.specs.Terms.{Bit}
+use Rattle.promise.specs.Meanings.{PlacesMean}
+use Rattle.promise.specs.Texts.{partsAt, wordsOf, neverWord, onWord, offWord, ReadShown, Shown, literalsIn, literalsOf, Opened, OfRead, OfOutput, SaysRead, SaysOutput, NeverSays, TextSays}
 use Rattle.promise.proofs.Bits.{bit-set, set-bit, bit-clear}
-use Rattle.promise.proofs.ConstraintMeanings.{names-iff}
 use Rattle.promise.proofs.NameRefusals.{find-refusals}
 use Rattle.promise.proofs.NameMeanings.{names-mean}
 use Rattle.promise.proofs.PlaceMeanings.{places-mean}

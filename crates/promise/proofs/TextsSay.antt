@@ -3,17 +3,16 @@
 use mathlib.Core.Path.{_≡_, refl, sym, ap, ap₂, subst, _∙_}
 use mathlib.Core.Bool.{Bool, true, false, cond, not, _&&_, _||_}
 use mathlib.Core.List.{List, [], _∷_, _++_, map, append-assoc}
-use mathlib.Core.Logic.{_↔_}
-use Prim.Native.Nat.{ℕ, zero, suc, _+_, _≤_, _<_}
+use Prim.Native.Nat.{ℕ, zero, suc, _+_, _<_}
 use native.Mathlib.Omega.{arith}
 use lib.Dec.{eqb, ltb}
 use lib.Bits.{or-lt}
-use lib.ListN.{length, getD, take, length-append, length-map, List·getD-append, List·getD-map}
+use lib.ListN.{length, getD, take, length-append, length-map}
 use lib.Seq.{length-take-le, getD-take, getD-append-add}
 use borrow.Author.Tests.{ltb-true}
 use Rattle.words.specs.Word.{bit}
 use Rattle.words.specs.Loop.{joined}
-use Rattle.words.proofs.BoolLaws.{by-test, and-true}
+use Rattle.words.proofs.BoolLaws.{and-true}
 use Rattle.words.proofs.BitLaws.{bit-below}
 use Rattle.decimal.specs.Decimal.{decimal}
 use Rattle.decimal.proofs.DigitsLaws.{decimal-digits}
@@ -24,13 +23,12 @@ use Rattle.scan.specs.declared.set.OutputPoint.{OutputPoint}
 use Rattle.scan.specs.declared.set.Constraint.{Constraint}
 use Rattle.scan.specs.declared.set.Set.{Set}
 use Rattle.scan.specs.Set.{mostReads, mostOutputs, readPoint, outputPoint, kind, constraint, rank, outs, noRead, noOutput, noConstraint}
-use Rattle.scan.specs.Names.{nameBytes}
 use Rattle.scan.specs.Shape.{kindOk, isSensor, wellFormed}
 use Rattle.scan.proofs.ShapeLaws.{Masks, counts, lengths, masks, outs-lt, read-formed, points-formed}
 use Rattle.text.specs.Grammar.{output-word, sensor-word, past-word, of-word, never-word, and-word, on-word, off-word, rank-word, end-word}
-use Rattle.text.specs.Text.{outputLine, kindLine, readLine, stateWord, rankWords, behind, namedBelow, namedReads, several, readLiteral, outputLiteral, neverLine, spaced, parted, shownLines, linesText, textOf}
+use Rattle.text.specs.Text.{outputLine, kindLine, readLine, stateWord, behind, namedBelow, namedReads, several, readLiteral, outputLiteral, neverLine, spaced, parted, shownLines, linesText, textOf}
 use Rattle.promise.specs.Allowed.{readName, outputName}
-use Rattle.promise.specs.Texts.{partsAt, linesOf, lineOf, wordsOf, outputWord, sensorWord, pastWord, ofWord, endWord, ReadShown, TextSays}
+use Rattle.promise.specs.Texts.{partsAt, linesOf, lineOf, wordsOf, ReadShown, TextSays}
 use Rattle.promise.proofs.NameMeanings.{names-mean}
 use Rattle.promise.proofs.ConstraintsShown.{never-says}
 use Rattle.promise.proofs.TextLines.{Solid, AllSolid, SolidLine, SolidLines, solid-append, solid-joined, line-back, lines-both, lines-each, lines-back, line-at, solid-at, line-behind, lines-count}
