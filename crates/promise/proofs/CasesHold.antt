@@ -58,6 +58,8 @@ unfolding odd bit some all firstFrom first zeroSet constraint nameByte allNameBy
 finds-worked = refl
 
 pub texts-worked : AllAnswered textCases
-unfolding onesIn odd bit popcount some joined firstFrom first nameLength nameBytes leading decimal zeroSet
-    readLiteral outputLiteral neverLine shownLines spaced linesText textOf
+unfolding onesIn odd bit popcount some all joined firstFrom first nameByte allNameBytes nameLength nameBytes sameName readNamed firstRead outputNamed
+    firstOutput isUsed countTests zeroSet rawOf headerOf spelling nameField kindOf readField readOf readAt readsFrom outputOf outputAt outputsFrom narrows
+    withLiteral literalsFrom constraintAt constraintsFrom countsAt loadFrom loadOf leading decimal readLiteral outputLiteral neverLine shownLines spaced
+    linesText textOf
 texts-worked = refl
