@@ -30,11 +30,11 @@ use Rattle.text.specs.Grammar.{never-word, rank-word}
 use Rattle.text.specs.Text.{stateWord, behind, namedBelow, namedReads, several, readLiteral, outputLiteral, neverLine}
 use Rattle.promise.specs.Allowed.{readName, outputName}
 use Rattle.promise.specs.Terms.{Bit, IsTrue}
-use Rattle.promise.specs.Texts.{neverWord, andWord, onWord, offWord, Shown, literalsIn, Among, Opened, OfRead, OfOutput, StandsIn, ShownTrue, SaysRead, SaysOutput, LiteralSays, NeverSays}
+use Rattle.promise.specs.Texts.{neverWord, andWord, onWord, offWord, Shown, literalsIn, rankBehind, asWords, Among, Opened, OfRead, OfOutput, StandsIn, ShownTrue, SaysRead, SaysOutput, LiteralSays, NeverSays}
 use Rattle.promise.proofs.Bits.{bit-set, set-bit}
 use Rattle.promise.proofs.ConstraintMeanings.{combined-iff}
 use Rattle.promise.proofs.NameRefusals.{find-refusals}
-use Rattle.promise.proofs.LineLiterals.{rankBehind, written, literals-back, written-long, hasOne, butFirst, first-never, oneIf, has-all, words-all, opened-all, among-left, among-right, among-either, among-items, items-among}
+use Rattle.promise.proofs.LineLiterals.{literals-back, words-long, hasOne, butFirst, first-never, oneIf, has-all, words-all, opened-all, among-left, among-right, among-either, among-items, items-among}
 
 -- ---- states and ranks
 
@@ -139,7 +139,7 @@ module _ (s : Set) (ok : wellFormed s ≡ true) (c : Constraint) (ms : Masks (s 
   abbrev items : List Shown
   items = readItems ++ outputItems
 
-  read-words : joined mostReads (readLiteral s c) ≡ butFirst (written readItems)
+  read-words : joined mostReads (readLiteral s c) ≡ butFirst (asWords readItems)
   unfolding readLiteral
   read-words = words-all [] [] false refl refl tt readNamed readItem (λ k. refl) mostReads
 
@@ -149,7 +149,7 @@ module _ (s : Set) (ok : wellFormed s ≡ true) (c : Constraint) (ms : Masks (s 
   read-opened : Opened neverWord readItems
   read-opened = opened-all [] [] false refl refl tt readNamed readItem (λ k. refl) mostReads
 
-  all-words : joined mostReads (readLiteral s c) ++ joined mostOutputs (outputLiteral s c) ≡ butFirst (written items)
+  all-words : joined mostReads (readLiteral s c) ++ joined mostOutputs (outputLiteral s c) ≡ butFirst (asWords items)
   unfolding outputLiteral
   all-words =
       (λ i. joined mostReads (readLiteral s c) ++ joined mostOutputs (λ k. cond (outputNamed k)
@@ -167,14 +167,14 @@ module _ (s : Set) (ok : wellFormed s ≡ true) (c : Constraint) (ms : Masks (s 
       ∙ or-right (namedBelow (namedReads c) mostReads) (some mostOutputs outputNamed) (some-true mostOutputs outputNamed (one .0) (omega (arith, one .1, few)) (one .2))
 
   -- The words of the line are those of its literals.
-  line-words : neverLine s c ≡ written items
+  line-words : neverLine s c ≡ asWords items
   unfolding neverLine
   line-words = ap (λ (l : List (List ℕ)). never-word ∷ l) all-words ∙ first-never items all-opened all-has
 
   -- The literals read off the line are those of the constraint.
   pub line-literals : (words : List (List ℕ)) → words ≡ neverLine s c → literalsIn (length words) words ≡ items
   line-literals words e =
-      ap (λ (l : List (List ℕ)). literalsIn (length l) l) (e ∙ line-words) ∙ literals-back neverWord items (length (written items)) (written-long items) all-opened
+      ap (λ (l : List (List ℕ)). literalsIn (length l) l) (e ∙ line-words) ∙ literals-back neverWord items (length (asWords items)) (words-long items) all-opened
 
   -- ---- each literal is of a point
 
@@ -368,3 +368,7 @@ module _ (s : Set) (ok : wellFormed s ≡ true) (i : ℕ) (h : i < s .m) where
   -- The literals read off the words of the line say the constraint.
   pub never-says : (words : List (List ℕ)) → words ≡ neverLine s c → NeverSays s i (literalsIn (length words) words)
   never-says words e = subst (λ (l : List Shown). NeverSays s i l) (sym (line-literals s ok c ms words e)) line-says
+
+  -- Nothing else stands in it.
+  pub never-words : (words : List (List ℕ)) → words ≡ neverLine s c → words ≡ asWords (literalsIn (length words) words)
+  never-words words e = e ∙ line-words s ok c ms ∙ sym (ap asWords (line-literals s ok c ms words e))

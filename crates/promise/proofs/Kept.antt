@@ -27,6 +27,7 @@ use Rattle.writer.specs.Write.{writeOf, writeAnswer, bufferAfter}
 use Rattle.loader.specs.Told.{loadTold}
 use Rattle.writer.specs.Told.{writeTold}
 use Rattle.setfile.proofs.WriteLoaded.{write-loaded}
+use Rattle.text.proofs.TextLaws.{text-fits}
 use Rattle.setfile.proofs.WrittenBytes.{written-bytes}
 use Rattle.setfile.proofs.FilesAndSets.{formed-iff}
 use Rattle.loader.proofs.RefusedZero.{zero-not-loaded}
@@ -159,5 +160,5 @@ promise = record {
   name-bytes = name-bytes-iff;
   files = file-says;
   lone-ranks = lone-ranks-unread;
-  texts = record { putting = text-refusals; says = text-says; one-set = one-set; one-text = one-text };
+  texts = record { putting = text-refusals; most = text-fits; says = text-says; one-set = one-set; one-text = one-text };
 }

@@ -11,28 +11,18 @@ use Rattle.words.specs.Loop.{some, joined}
 use Rattle.words.proofs.LoopLaws.{below-suc}
 use Rattle.text.specs.Text.{behind}
 use Rattle.promise.specs.Column.{sameBytes}
-use Rattle.promise.specs.Texts.{neverWord, andWord, rankWord, Shown, literalsIn, Among, Opened}
+use Rattle.promise.specs.Texts.{neverWord, andWord, Shown, literalsIn, rankBehind, asWords, Among, Opened}
 
 -- ---- the words of literals
-
--- of a rank
-abbrev pub rankBehind : List ℕ → List (List ℕ)
-rankBehind [] = []
-rankBehind (d ∷ ds) = rankWord ∷ (d ∷ ds) ∷ []
 
 -- of a literal, without the one before it
 abbrev pub ownWords : Shown → List (List ℕ)
 ownWords l = l .name ∷ l .state ∷ rankBehind (l .digits)
 
--- of literals, one after the other
-abbrev pub written : List Shown → List (List ℕ)
-written [] = []
-written (l ∷ ls) = (l .before ∷ ownWords l) ++ written ls
-
-written-append : (x y : List Shown) → written (x ++ y) ≡ written x ++ written y
-written-append [] y = refl
-written-append (l ∷ x) y =
-    ap (λ (r : List (List ℕ)). (l .before ∷ ownWords l) ++ r) (written-append x y) ∙ sym (append-assoc (l .before ∷ ownWords l) (written x) (written y))
+words-append : (x y : List Shown) → asWords (x ++ y) ≡ asWords x ++ asWords y
+words-append [] y = refl
+words-append (l ∷ x) y =
+    ap (λ (r : List (List ℕ)). (l .before ∷ ownWords l) ++ r) (words-append x y) ∙ sym (append-assoc (l .before ∷ ownWords l) (asWords x) (asWords y))
 
 -- ---- read back
 
@@ -41,16 +31,16 @@ shown before name state digits = record { before = before; name = name; state = 
 
 -- one literal at the front
 one-back : (most : ℕ) (before name state digits : List ℕ) (ls : List Shown) → Opened andWord ls
-    → literalsIn (suc most) (before ∷ name ∷ state ∷ (rankBehind digits ++ written ls)) ≡ shown before name state digits ∷ literalsIn most (written ls)
+    → literalsIn (suc most) (before ∷ name ∷ state ∷ (rankBehind digits ++ asWords ls)) ≡ shown before name state digits ∷ literalsIn most (asWords ls)
 unfolding literalsIn sameBytes
 one-back most before name state (d ∷ ds) ls o = refl
 one-back most before name state [] [] o = refl
 one-back most before name state [] (l ∷ ls) o =
-    subst (λ (w : List ℕ). literalsIn (suc most) (before ∷ name ∷ state ∷ w ∷ (ownWords l ++ written ls)) ≡ shown before name state [] ∷ literalsIn most (w ∷ (ownWords l ++ written ls)))
+    subst (λ (w : List ℕ). literalsIn (suc most) (before ∷ name ∷ state ∷ w ∷ (ownWords l ++ asWords ls)) ≡ shown before name state [] ∷ literalsIn most (w ∷ (ownWords l ++ asWords ls)))
     (sym (o .0)) refl
 
 -- Literals are read back from their words.
-pub literals-back : (word : List ℕ) (ls : List Shown) (most : ℕ) → length ls ≤ most → Opened word ls → literalsIn most (written ls) ≡ ls
+pub literals-back : (word : List ℕ) (ls : List Shown) (most : ℕ) → length ls ≤ most → Opened word ls → literalsIn most (asWords ls) ≡ ls
 unfolding literalsIn
 literals-back word [] zero h o = refl
 literals-back word [] (suc most) h o = refl
@@ -59,9 +49,9 @@ literals-back word (l ∷ ls) (suc most) h o =
     one-back most (l .before) (l .name) (l .state) (l .digits) ls (o .1) ∙ ap (λ (r : List Shown). l ∷ r) (literals-back andWord ls most (omega arith) (o .1))
 
 -- a literal has a word at least
-pub written-long : (ls : List Shown) → length ls ≤ length (written ls)
-written-long [] = omega arith
-written-long (l ∷ ls) = omega (arith, length-append (l .before ∷ ownWords l) (written ls), written-long ls)
+pub words-long : (ls : List Shown) → length ls ≤ length (asWords ls)
+words-long [] = omega arith
+words-long (l ∷ ls) = omega (arith, length-append (l .before ∷ ownWords l) (asWords ls), words-long ls)
 
 -- ---- literals with `and` between them
 
@@ -80,29 +70,29 @@ butFirst [] = []
 butFirst (w ∷ ws) = ws
 
 -- `never` and the words behind the first are the words of the literals
-pub first-never : (ls : List Shown) → Opened neverWord ls → hasOne ls ≡ true → neverWord ∷ butFirst (written ls) ≡ written ls
+pub first-never : (ls : List Shown) → Opened neverWord ls → hasOne ls ≡ true → neverWord ∷ butFirst (asWords ls) ≡ asWords ls
 first-never [] o e = absurd (one-not e)
   where
     one-not : _≡_ {A = Bool} false true → ⊥
     one-not q = let z : _≡_ {A = ℕ} 0 1 = ap (λ (b : Bool). cond b 1 0) q in omega arith
-first-never (l ∷ ls) o e = ap (λ (w : List ℕ). w ∷ (ownWords l ++ written ls)) (sym (o .0))
+first-never (l ∷ ls) o e = ap (λ (w : List ℕ). w ∷ (ownWords l ++ asWords ls)) (sym (o .0))
 
 -- the literal, where it is there
 abbrev pub oneIf : Bool → Shown → List Shown
 oneIf there l = cond there (l ∷ []) []
 
 -- a literal more: its words behind the others'
-more-words : (ls : List Shown) (l : Shown) (there others : Bool) (words : List (List ℕ)) → words ≡ butFirst (written ls) → others ≡ hasOne ls
-    → l .before ≡ cond others andWord neverWord → words ++ cond there (behind others (ownWords l)) [] ≡ butFirst (written (ls ++ oneIf there l))
-more-words ls l false others words e q b = append-nil words ∙ e ∙ ap (λ (x : List Shown). butFirst (written x)) (sym (append-nil ls))
+more-words : (ls : List Shown) (l : Shown) (there others : Bool) (words : List (List ℕ)) → words ≡ butFirst (asWords ls) → others ≡ hasOne ls
+    → l .before ≡ cond others andWord neverWord → words ++ cond there (behind others (ownWords l)) [] ≡ butFirst (asWords (ls ++ oneIf there l))
+more-words ls l false others words e q b = append-nil words ∙ e ∙ ap (λ (x : List Shown). butFirst (asWords x)) (sym (append-nil ls))
 more-words [] l true others words e q b =
     ap₂ (λ (ws : List (List ℕ)) (o : Bool). ws ++ behind o (ownWords l)) e q ∙ sym (append-nil (ownWords l))
 more-words (x ∷ ls) l true others words e q b =
     let word : l .before ≡ andWord = b ∙ ap (λ (o : Bool). cond o andWord neverWord) q in
     ap₂ (λ (ws : List (List ℕ)) (o : Bool). ws ++ behind o (ownWords l)) e q
-    ∙ append-assoc (ownWords x) (written ls) (andWord ∷ ownWords l)
-    ∙ ap₂ (λ (w : List ℕ) (r : List (List ℕ)). ownWords x ++ (written ls ++ (w ∷ r))) (sym word) (sym (append-nil (ownWords l)))
-    ∙ ap (λ (r : List (List ℕ)). ownWords x ++ r) (sym (written-append ls (l ∷ [])))
+    ∙ append-assoc (ownWords x) (asWords ls) (andWord ∷ ownWords l)
+    ∙ ap₂ (λ (w : List ℕ) (r : List (List ℕ)). ownWords x ++ (asWords ls ++ (w ∷ r))) (sym word) (sym (append-nil (ownWords l)))
+    ∙ ap (λ (r : List (List ℕ)). ownWords x ++ r) (sym (words-append ls (l ∷ [])))
 
 -- and its place among them
 more-opened : (ls : List Shown) (l : Shown) (there : Bool) → Opened neverWord ls → l .before ≡ cond (hasOne ls) andWord neverWord → Opened neverWord (ls ++ oneIf there l)
@@ -115,7 +105,7 @@ more-opened (x ∷ ls) l true o b = (o .0, last ls (o .1))
     last (y ∷ xs) p = (p .0, last xs (p .1))
 
 -- the literals of the points that pass a test, behind others
-module _ (pre : List Shown) (words : List (List ℕ)) (others : Bool) (q : others ≡ hasOne pre) (e : words ≡ butFirst (written pre)) (o : Opened neverWord pre)
+module _ (pre : List Shown) (words : List (List ℕ)) (others : Bool) (q : others ≡ hasOne pre) (e : words ≡ butFirst (asWords pre)) (o : Opened neverWord pre)
     (p : ℕ → Bool) (item : ℕ → Shown) (opening : (k : ℕ) → item k .before ≡ cond (others || some k p) andWord neverWord) where
   abbrev items : ℕ → List Shown
   items n = joined n (λ k. oneIf (p k) (item k))
@@ -132,13 +122,13 @@ module _ (pre : List Shown) (words : List (List ℕ)) (others : Bool) (q : other
   pub has-all : (n : ℕ) → others || some n p ≡ hasOne (pre ++ items n)
   has-all n = ap₂ _||_ q (sym (has-items n)) ∙ sym (has-append pre (items n))
 
-  pub words-all : (n : ℕ) → words ++ joined n (λ k. cond (p k) (behind (others || some k p) (ownWords (item k))) []) ≡ butFirst (written (pre ++ items n))
+  pub words-all : (n : ℕ) → words ++ joined n (λ k. cond (p k) (behind (others || some k p) (ownWords (item k))) []) ≡ butFirst (asWords (pre ++ items n))
   unfolding joined
-  words-all zero = append-nil words ∙ e ∙ ap (λ (x : List Shown). butFirst (written x)) (sym (append-nil pre))
+  words-all zero = append-nil words ∙ e ∙ ap (λ (x : List Shown). butFirst (asWords x)) (sym (append-nil pre))
   words-all (suc n) =
       sym (append-assoc words (joined n (λ k. cond (p k) (behind (others || some k p) (ownWords (item k))) [])) _)
       ∙ more-words (pre ++ items n) (item n) (p n) (others || some n p) _ (words-all n) (has-all n) (opening n)
-      ∙ ap (λ (x : List Shown). butFirst (written x)) (append-assoc pre (items n) (oneIf (p n) (item n)))
+      ∙ ap (λ (x : List Shown). butFirst (asWords x)) (append-assoc pre (items n) (oneIf (p n) (item n)))
 
   pub opened-all : (n : ℕ) → Opened neverWord (pre ++ items n)
   unfolding joined

@@ -30,7 +30,7 @@ use Rattle.text.specs.Text.{outputLine, kindLine, readLine, stateWord, behind, 
 use Rattle.promise.specs.Allowed.{readName, outputName}
 use Rattle.promise.specs.Texts.{partsAt, linesOf, lineOf, wordsOf, ReadShown, TextSays}
 use Rattle.promise.proofs.NameMeanings.{names-mean}
-use Rattle.promise.proofs.ConstraintsShown.{never-says}
+use Rattle.promise.proofs.ConstraintsShown.{never-words, never-says}
 use Rattle.promise.proofs.TextLines.{Solid, AllSolid, SolidLine, SolidLines, solid-append, solid-joined, line-back, lines-both, lines-each, lines-back, line-at, solid-at, line-behind, lines-count}
 
 -- ---- words that are no names
@@ -253,5 +253,6 @@ module _ (s : Set) (ok : wellFormed s ≡ true) where
     nothing-after = ap₂ (λ (l : List (List ℕ)) (k : ℕ). getD l k []) text-lines (sym lines-many) ∙ line-behind lines;
     outputs = λ j h. text-words j (omega arith) ∙ output-at j h;
     reads = λ k h. read-shown k h (wordsOf (textOf s) (s .n + k)) (text-words (s .n + k) (omega arith) ∙ read-at k h);
+    literals = λ i h. never-words s ok i h (wordsOf (textOf s) (s .n + s .r + i)) (text-words (s .n + s .r + i) (omega arith) ∙ never-at i h);
     constraints = λ i h. never-says s ok i h (wordsOf (textOf s) (s .n + s .r + i)) (text-words (s .n + s .r + i) (omega arith) ∙ never-at i h);
   }

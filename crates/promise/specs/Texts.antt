@@ -119,6 +119,16 @@ literalsIn (suc most) (before ∷ words) =
 abbrev pub literalsOf : List ℕ → ℕ → List Shown
 literalsOf text k = literalsIn (length (wordsOf text k)) (wordsOf text k)
 
+-- the words of a rank, none where there are no digits
+abbrev pub rankBehind : List ℕ → List (List ℕ)
+rankBehind [] = []
+rankBehind (d ∷ ds) = rankWord ∷ (d ∷ ds) ∷ []
+
+-- the words of literals, three or five each
+abbrev pub asWords : List Shown → List (List ℕ)
+asWords [] = []
+asWords (l ∷ ls) = (l .before ∷ l .name ∷ l .state ∷ rankBehind (l .digits)) ++ asWords ls
+
 -- it is one of the list
 abbrev pub Among : {A : Type 0} → A → List A → Type 0
 Among x [] = ⊥
@@ -191,7 +201,8 @@ pub record TextSays (s : Set) (text : List ℕ) : Type 0 where
   pub outputs : (j : ℕ) → j < s .n → wordsOf text j ≡ outputWord ∷ outputName s j ∷ []
   -- then the read points by number, each with its kind
   pub reads : (k : ℕ) → k < s .r → ReadShown s k (kind s k) (wordsOf text (s .n + k))
-  -- then the constraints by number
+  -- then the constraints by number: the words of their lines are literals, and nothing else
+  pub literals : (i : ℕ) → i < s .m → wordsOf text (s .n + s .r + i) ≡ asWords (literalsOf text (s .n + s .r + i))
   pub constraints : (i : ℕ) → i < s .m → NeverSays s i (literalsOf text (s .n + s .r + i))
 
 -- ---- putting the text of any set into any buffer
@@ -213,6 +224,8 @@ pub record TextRefusals (s : Set) (buf : List ℕ) : Type 0 where
 
 pub record Texts : Type 0 where
   pub putting : (s : Set) (buf : List ℕ) → TextRefusals s buf
+  -- no text is longer than this
+  pub most : (s : Set) → wellFormed s ≡ true → length (textOf s) ≤ 65536
   pub says : (s : Set) → wellFormed s ≡ true → TextSays s (textOf s)
   -- what a text says is the whole set: no other well-formed set has it said of it
   pub one-set : (s t : Set) → wellFormed s ≡ true → wellFormed t ≡ true → (text : List ℕ) → TextSays s text → TextSays t text → s ≡ t
