@@ -46,6 +46,9 @@ state-off : (b : Bool) → stateWord b ≡ offWord → b ≡ false
 state-off true e = let z : _≡_ {A = ℕ} 2 3 = ap length e in absurd (omega arith)
 state-off false e = refl
 
+on-not-off : (state : List ℕ) → state ≡ onWord → state ≡ offWord → ⊥
+on-not-off state e f = let z : _≡_ {A = ℕ} 2 3 = ap length (sym e ∙ f) in omega arith
+
 state-either : (b : Bool) → (stateWord b ≡ onWord) ⊎ (stateWord b ≡ offWord)
 state-either true = inl refl
 state-either false = inr refl
@@ -266,10 +269,10 @@ module _ (s : Set) (ok : wellFormed s ≡ true) (c : Constraint) (ms : Masks (s 
   -- ---- truth
 
   stands-on : (state : List ℕ) (k word : ℕ) → state ≡ onWord → StandsIn state k word → Bit k word
-  stands-on state k word e = ⊎-elim (λ x. x .1) (λ x. let z : _≡_ {A = ℕ} 2 3 = ap length (sym e ∙ x .0) in absurd (omega arith))
+  stands-on state k word e = ⊎-elim (λ x. x .1) (λ x. absurd (on-not-off state e (x .0)))
 
   stands-off : (state : List ℕ) (k word : ℕ) → state ≡ offWord → StandsIn state k word → ¬ Bit k word
-  stands-off state k word e = ⊎-elim (λ x. let z : _≡_ {A = ℕ} 3 2 = ap length (sym e ∙ x .0) in absurd (omega arith)) (λ x. x .1)
+  stands-off state k word e = ⊎-elim (λ x. absurd (on-not-off state (x .0) e)) (λ x. x .1)
 
   module _ (w v : ℕ) where
     -- a true literal of a read point, and of an output
