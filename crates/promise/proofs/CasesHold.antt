@@ -3,9 +3,9 @@
 use mathlib.Core.Path.{refl}
 use lib.Count.{onesIn}
 use Rattle.words.specs.Word.{odd, bit, without, meets, popcount}
-use Rattle.words.specs.Loop.{gather, bitIf, word, some, all, firstFrom, first}
+use Rattle.words.specs.Loop.{gather, bitIf, word, some, all, firstFrom, first, joined}
 use Rattle.scan.specs.Set.{zeroSet, constraint, kind}
-use Rattle.scan.specs.Names.{nameByte, allNameBytes, nameLength, placeOk, nameOk, nameZero, sameName, readNamed, firstRead, outputNamed, firstOutput, isUsed}
+use Rattle.scan.specs.Names.{nameByte, allNameBytes, nameLength, nameBytes, placeOk, nameOk, nameZero, sameName, readNamed, firstRead, outputNamed, firstOutput, isUsed}
 use Rattle.scan.specs.Shape.{countTests, lengthTests, kindOk, readOk, readZero, readPlace, outputOk, outputPlace, rankOk, constraintTests, constraintZero, constraintPlace, setTests, wellFormed}
 use Rattle.scan.specs.Constraint.{readsTrue, outsTrue, isTrue, simple, combined, trueAt, safe, hasVector}
 use Rattle.scan.specs.Holds.{holding, toZero, toOne, F0, F1, unheldBy, unheld, unheldCount, startFrom, startVector}
@@ -21,7 +21,9 @@ use Rattle.start.specs.Start.{startOf}
 use Rattle.header.specs.Header.{rawOf, headerOf}
 use Rattle.literal.specs.Literal.{narrows, withLiteral, literalsFrom}
 use Rattle.loader.specs.Load.{countsAt, nameField, kindOf, readField, readOf, readAt, readsFrom, outputOf, outputAt, outputsFrom, constraintAt, constraintsFrom, loadFrom, loadOf}
-use Rattle.promise.specs.Cases.{AllAnswered, starred, further, scanCases, findCases}
+use Rattle.decimal.specs.Decimal.{leading, decimal}
+use Rattle.text.specs.Text.{readLiteral, outputLiteral, neverLine, shownLines, spaced, linesText, textOf}
+use Rattle.promise.specs.Cases.{AllAnswered, starred, further, scanCases, findCases, textCases}
 
 pub starred-hold : AllAnswered starred
 unfolding onesIn odd bit without meets popcount gather bitIf word some all firstFrom first zeroSet constraint kind nameByte nameLength placeOk nameOk
@@ -54,3 +56,10 @@ unfolding odd bit some all firstFrom first zeroSet constraint nameByte allNameBy
     outputNamed firstOutput countTests lengthTests kindOk readOk readZero readPlace outputOk outputPlace rankOk constraintTests constraintZero
     constraintPlace setTests wellFormed findPadded findOf
 finds-worked = refl
+
+pub texts-worked : AllAnswered textCases
+unfolding onesIn odd bit popcount some all joined firstFrom first nameByte allNameBytes nameLength nameBytes sameName readNamed firstRead outputNamed
+    firstOutput isUsed countTests zeroSet rawOf headerOf spelling nameField kindOf readField readOf readAt readsFrom outputOf outputAt outputsFrom narrows
+    withLiteral literalsFrom constraintAt constraintsFrom countsAt loadFrom loadOf leading decimal readLiteral outputLiteral neverLine shownLines spaced
+    linesText textOf
+texts-worked = refl

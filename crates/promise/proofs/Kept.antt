@@ -27,6 +27,7 @@ use Rattle.writer.specs.Write.{writeOf, writeAnswer, bufferAfter}
 use Rattle.loader.specs.Told.{loadTold}
 use Rattle.writer.specs.Told.{writeTold}
 use Rattle.setfile.proofs.WriteLoaded.{write-loaded}
+use Rattle.text.proofs.TextLaws.{text-fits}
 use Rattle.setfile.proofs.WrittenBytes.{written-bytes}
 use Rattle.setfile.proofs.FilesAndSets.{formed-iff}
 use Rattle.loader.proofs.RefusedZero.{zero-not-loaded}
@@ -45,6 +46,9 @@ use Rattle.promise.proofs.NameMeanings.{names-mean}
 use Rattle.promise.proofs.PlaceMeanings.{places-mean}
 use Rattle.promise.proofs.LoneRankMeanings.{lone-ranks-unread}
 use Rattle.promise.proofs.FilesSay.{file-says}
+use Rattle.promise.proofs.TextsSay.{text-says}
+use Rattle.promise.proofs.OneText.{one-set, one-text}
+use Rattle.promise.proofs.TextRefusals.{text-refusals}
 use Rattle.promise.proofs.ExactVerdicts.{told-accepted, exact-verdict, exact-start}
 use Rattle.promise.proofs.ScanLists.{sends-mean, right-scans}
 
@@ -156,4 +160,5 @@ promise = record {
   name-bytes = name-bytes-iff;
   files = file-says;
   lone-ranks = lone-ranks-unread;
+  texts = record { putting = text-refusals; most = text-fits; says = text-says; one-set = one-set; one-text = one-text };
 }

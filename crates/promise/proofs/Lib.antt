@@ -25,5 +25,11 @@ pub mod BodyLiterals
 pub mod FirstBytes
 pub mod ConstraintsSay
 pub mod FilesSay
+pub mod TextLines
+pub mod LineLiterals
+pub mod ConstraintsShown
+pub mod TextsSay
+pub mod OneText
+pub mod TextRefusals
 pub mod Kept
 pub mod CasesHold

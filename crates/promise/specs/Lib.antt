@@ -4,6 +4,7 @@ pub mod Zero
 pub mod Fields
 pub mod Column
 pub mod FileSays
+pub mod Texts
 pub mod Verdicts
 pub mod Meanings
 pub mod Scans
