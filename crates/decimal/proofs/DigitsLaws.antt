@@ -5,6 +5,7 @@ use mathlib.Core.Bool.{Bool, true, false, cond}
 use mathlib.Core.List.{List, [], _∷_, _++_, append-assoc}
 use mathlib.Core.Logic.{_≢_}
 use Prim.Native.Nat.{ℕ, zero, suc, _+_, _-_, _*_, _/_, _%_, _^_, _≤_, _<_}
+use native.Mathlib.Decide.{decLe}
 use native.Mathlib.Omega.{arith}
 use native.Mathlib.Nat.{pow-suc}
 use lib.Dec.{eqb}
@@ -106,3 +107,23 @@ leading-short (suc most) n = go (eqb n 0) (leading-short most (n / 10))
 pub decimal-short : (n : ℕ) → length (decimal n) ≤ 20
 unfolding decimal
 decimal-short n = omega (arith, length-append (leading 19 (n / 10)) (lastDigit n ∷ []), leading-short 19 (n / 10))
+
+-- A number has a digit.
+pub decimal-some : (n : ℕ) → 1 ≤ length (decimal n)
+unfolding decimal
+decimal-some n = omega (arith, length-append (leading 19 (n / 10)) (lastDigit n ∷ []))
+
+-- a number below 10 has one digit
+one-digit : (n : ℕ) → n < 10 → length (decimal n) ≡ 1
+unfolding decimal
+one-digit n h =
+    let z : n / 10 ≡ 0 = omega arith in
+    ap (λ (k : ℕ). length (leading 19 k ++ (lastDigit n ∷ []))) z ∙ ap (λ (l : List ℕ). length (l ++ (lastDigit n ∷ []))) (leading-none 19)
+
+-- Of several digits the first is not 0.
+pub decimal-shortest : (n : ℕ) → n < 10 ^ 20 → 2 ≤ length (decimal n) → getD (decimal n) 0 0 ≢ 0x30
+decimal-shortest n h several = go (decLe 10 n)
+  where
+    go : Dec (10 ≤ n) → getD (decimal n) 0 0 ≢ 0x30
+    go (yes p) = decimal-first n p h
+    go (no p) = λ e. omega (arith, one-digit n (omega arith))

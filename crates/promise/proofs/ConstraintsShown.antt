@@ -3,7 +3,7 @@
 use mathlib.Core.Path.{_≡_, refl, sym, ap, subst, _∙_}
 use mathlib.Core.Bool.{Bool, true, false, cond, not, _&&_, _||_}
 use mathlib.Core.List.{List, [], _∷_, _++_}
-use mathlib.Core.Logic.{_↔_, _⊎_, inl, inr, ⊎-elim}
+use mathlib.Core.Logic.{_↔_, _⊎_, _≢_, inl, inr, ⊎-elim}
 use Prim.Native.Nat.{ℕ, _/_, _≤_, _<_}
 use native.Mathlib.Omega.{arith}
 use lib.Dec.{eqb}
@@ -17,7 +17,7 @@ use Rattle.words.proofs.BitLaws.{bit-and, bit-or, bit-below, bit-zero}
 use Rattle.words.proofs.LoopLaws.{some-true, some-bit}
 use Rattle.decimal.specs.Decimal.{lastDigit, leading, decimal}
 use Rattle.decimal.specs.Digits.{saidAfter, said}
-use Rattle.decimal.proofs.DigitsLaws.{decimal-says, decimal-digits}
+use Rattle.decimal.proofs.DigitsLaws.{decimal-says, decimal-shortest, decimal-digits}
 use Rattle.scan.specs.declared.set.Constraint.{Constraint}
 use Rattle.scan.specs.declared.set.Set.{Set}
 use Rattle.scan.specs.Set.{mostReads, mostOutputs, constraint, rank, outs}
@@ -79,6 +79,14 @@ digits-said false n h z = z refl
 -- every byte is a digit
 abbrev Digits : List ℕ → Type 0
 Digits bytes = (j : ℕ) → j < length bytes → (0x30 ≤ getD bytes j 0) × (getD bytes j 0 ≤ 0x39)
+
+-- the first of several digits is not 0
+abbrev Shortest : List ℕ → Type 0
+Shortest bytes = 2 ≤ length bytes → getD bytes 0 0 ≢ 0x30
+
+digits-shortest : (b : Bool) (n : ℕ) → n < 256 → Shortest (digitsIf b n)
+digits-shortest true n h = decimal-shortest n (omega arith)
+digits-shortest false n h = λ m. absurd (omega arith)
 
 digits-each : (b : Bool) (n : ℕ) → Digits (digitsIf b n)
 digits-each true n = decimal-digits n
@@ -353,6 +361,11 @@ module _ (s : Set) (ok : wellFormed s ≡ true) (i : ℕ) (h : i < s .m) where
         subst (λ (y : Shown). 1 ≤ length (y .digits)) (x .1) (digits-long (shows s ok c ms k) (rank c k) (or-left (several c) (not (eqb (rank c k) 0)) (combined-iff s ok i h .1 d)));
     digits = ⊎-elim (λ x. subst (λ (y : Shown). Digits (y .digits)) (x .2) (λ j l. absurd (omega arith)))
         (λ x. subst (λ (y : Shown). Digits (y .digits)) (x .2) (digits-each (shows s ok c ms (x .0)) (rank c (x .0)))) (item-of s ok c ms l a);
+    shortest = ⊎-elim (λ x. subst (λ (y : Shown). Shortest (y .digits)) (x .2) (λ m. absurd (omega arith)))
+        (λ x.
+        let few = output-below s ok c ms (x .0) (x .1) in
+        let most = counts s ok .n-le in
+        subst (λ (y : Shown). Shortest (y .digits)) (x .2) (digits-shortest (shows s ok c ms (x .0)) (rank c (x .0)) (rank-lt c (x .0) (ms .ranks-ok (x .0) (omega arith))))) (item-of s ok c ms l a);
     no-rank = λ k f. sym (ap (λ (y : Shown). y .digits) (of-read s ok c ms l a k f .1));
   }
 

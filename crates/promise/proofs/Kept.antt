@@ -47,6 +47,7 @@ use Rattle.promise.proofs.PlaceMeanings.{places-mean}
 use Rattle.promise.proofs.LoneRankMeanings.{lone-ranks-unread}
 use Rattle.promise.proofs.FilesSay.{file-says}
 use Rattle.promise.proofs.TextsSay.{text-says}
+use Rattle.promise.proofs.LinesSay.{printed-says}
 use Rattle.promise.proofs.OneText.{one-set, one-text}
 use Rattle.promise.proofs.TextRefusals.{text-refusals}
 use Rattle.promise.proofs.ExactVerdicts.{told-accepted, exact-verdict, exact-start}
@@ -160,5 +161,6 @@ promise = record {
   name-bytes = name-bytes-iff;
   files = file-says;
   lone-ranks = lone-ranks-unread;
+  line = printed-says;
   texts = record { putting = text-refusals; most = text-fits; says = text-says; one-set = one-set; one-text = one-text };
 }

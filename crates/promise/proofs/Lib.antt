@@ -33,3 +33,4 @@ pub mod OneText
 pub mod TextRefusals
 pub mod Kept
 pub mod CasesHold
+pub mod LinesSay

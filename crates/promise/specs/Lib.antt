@@ -11,3 +11,4 @@ pub mod Scans
 pub mod NeverTold
 pub mod Promise
 pub mod Cases
+pub mod Lines

@@ -37,6 +37,7 @@ use Rattle.promise.specs.Zero.{allZeroSet, allZeroState}
 use Rattle.promise.specs.Allowed.{StateAllowed, SensorAllowed, RequestAllowed, wordOf, readName, outputName, LengthAllowed, NameBytes, NoPoint}
 use Rattle.promise.specs.Meanings.{Meanings, ReadsMean, NameBytesMean, SameButLoneRanks, LoneRanksUnread}
 use Rattle.promise.specs.FileSays.{FileSays}
+use Rattle.promise.specs.Lines.{LineSays}
 use Rattle.promise.specs.Texts.{Texts}
 use Rattle.promise.specs.Verdicts.{EndsSafe, GoodWord, BadWord, FirstNoVector, FirstNoEnd}
 use Rattle.promise.specs.Scans.{SendsDue, EveryRight, StateOfList}
@@ -203,5 +204,7 @@ pub record Promise : Type 0 where
   pub files : (file : List ℕ) → Bytes file → loadTold (loadOf file .answer) ≡ 0 ∷ [] → FileSays file (loadOf file .set)
   -- a lone output's rank is kept and never read
   pub lone-ranks : (s t : Set) → wellFormed s ≡ true → wellFormed t ≡ true → SameButLoneRanks s t → LoneRanksUnread s t
+  -- what the verdict program prints of the bytes that it read
+  pub line : (file : List ℕ) → LineSays file
   -- beyond document 01: what the text of a set says, and how it is put into a buffer
   pub texts : Texts

@@ -172,6 +172,8 @@ pub record LiteralSays (s : Set) (i : ℕ) (l : Shown) : Type 0 where
   pub ranks : (k : ℕ) → OfOutput s l k → rank (constraint s i) k ≡ said (l .digits)
   pub ranked : Combined (constraint s i) → (k : ℕ) → OfOutput s l k → 1 ≤ length (l .digits)
   pub digits : (j : ℕ) → j < length (l .digits) → (0x30 ≤ getD (l .digits) j 0) × (getD (l .digits) j 0 ≤ 0x39)
+  -- no zero stands before other digits
+  pub shortest : 2 ≤ length (l .digits) → getD (l .digits) 0 0 ≢ 0x30
   -- a read point has no rank
   pub no-rank : (k : ℕ) → OfRead s l k → l .digits ≡ []
 
