@@ -1,8 +1,10 @@
 -- `shown::showing::show_file` meets its contract: the text of the loaded set, or the line of the refusal. Assumes nothing.
-use mathlib.Core.Path.{ap, _∙_}
+use mathlib.Core.Path.{_≡_, ap, _∙_}
 use denote.Ref.{now}
 use lib.ListN.{length}
 use Rattle.loader.specs.declared.loader.LoadAnswer.the-variants.{Loaded as WasLoaded, Refused as WasRefused}
+use Rattle.line.specs.declared.printer.Line.the-variants.{Load}
+use Rattle.line.specs.Line.{lineAnswer}
 use Rattle.shown.specs.Shown.{lengthPut}
 use Rattle.shown.proofs.ShownLaws.{length-told, after-told}
 use borrow.Author.Needs.{needs}
@@ -50,8 +52,10 @@ returns-2 c =
     let k = p .before .before .before in
     let f = k .before .before in
     let a = f .before .before .before .args in
-    let file = now (a .file) in (
-      p .put-line .ensures .0 ∙ length-told file (f .load .result) (f .load .ensures) (WasRefused _ _) (k .answer .given .1) (length (now (a .buf))),
+    let file = now (a .file) in
+    let told = k .answer .given .0 in
+    let line : p .put-line .result ≡ lineAnswer (Load (told .0) (told .1 .0)) (length (now (a .buf))) = p .put-line .ensures .0 in (
+      line ∙ length-told file (f .load .result) (f .load .ensures) (WasRefused _ _) (k .answer .given .1) (length (now (a .buf))),
       p .put-line .ensures .1 ∙ after-told file (f .load .result) (f .load .ensures) (WasRefused _ _) (k .answer .given .1) (now (a .buf)),
     )
 

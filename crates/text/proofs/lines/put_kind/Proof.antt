@@ -63,7 +63,7 @@ returns-2 c =
     let p = c .before .before in
     let k = p .before .before .before in
     let a = k .before .before .before .before .args in
-    within-same (now (a .buf)) (a .at) _ _ _ _
+    within-same (now (a .buf)) (a .at) _ _ _ (p .put-past .result)
     (ap (λ (x : Kind). parted (kindLineBy (now (a .reads)) (now (a .outputs)) (nameBytes (a .p .name)) x)) (sym (k .kind .given .1)))
     (p .put-past .ensures)
 
@@ -75,7 +75,7 @@ returns-3 c =
     let p = c .before .before in
     let k = p .before .before .before in
     let a = k .before .before .before .before .args in
-    within-same (now (a .buf)) (a .at) _ _ _ _
+    within-same (now (a .buf)) (a .at) _ _ _ (p .put-past2 .result)
     (ap (λ (x : Kind). parted (kindLineBy (now (a .reads)) (now (a .outputs)) (nameBytes (a .p .name)) x)) (sym (k .kind2 .given .1)))
     (p .put-past2 .ensures)
 
