@@ -590,6 +590,111 @@ static unsigned write_set(const struct set *s, uint8_t *buf, size_t len)
     return 0;
 }
 
+// ---- the text of a set
+
+// A place in a buffer: what has no place there is not stored, and is counted.
+struct place {
+    uint8_t *buf;
+    size_t len, at;
+};
+
+static void text_byte(struct place *p, uint8_t b)
+{
+    if (p->at < p->len)
+        p->buf[p->at] = b;
+    p->at++;
+}
+
+static void text_bytes(struct place *p, const char *bytes)
+{
+    for (; *bytes != 0; bytes++)
+        text_byte(p, (uint8_t)*bytes);
+}
+
+// A space and a name.
+static void text_name(struct place *p, const uint8_t *name)
+{
+    text_byte(p, ' ');
+    for (size_t k = 0; k < NAME_PLACES && name[k] != 0; k++)
+        text_byte(p, name[k]);
+}
+
+static void text_rank(struct place *p, uint8_t rank)
+{
+    text_bytes(p, " rank ");
+    if (rank >= 100)
+        text_byte(p, (uint8_t)('0' + rank / 100));
+    if (rank >= 10)
+        text_byte(p, (uint8_t)('0' + rank / 10 % 10));
+    text_byte(p, (uint8_t)('0' + rank % 10));
+}
+
+static void text_literal(struct place *p, bool *others, const uint8_t *name, bool plain)
+{
+    if (*others)
+        text_bytes(p, " and");
+    *others = true;
+    text_name(p, name);
+    text_bytes(p, plain ? " on" : " off");
+}
+
+static void text_constraint(struct place *p, const struct set *s, const struct constraint *c)
+{
+    bool others = false;
+    bool several = __builtin_popcount(c->out_plain | c->out_negated) > 1;
+    text_bytes(p, "never");
+    for (size_t k = 0; k < MOST_READS; k++)
+        if ((c->read_plain | c->read_negated) >> k & 1)
+            text_literal(p, &others, s->reads[k].name, c->read_plain >> k & 1);
+    for (size_t k = 0; k < MOST_OUTPUTS; k++)
+        if ((c->out_plain | c->out_negated) >> k & 1) {
+            text_literal(p, &others, s->outputs[k].name, c->out_plain >> k & 1);
+            if (several || c->ranks[k] != 0)
+                text_rank(p, c->ranks[k]);
+        }
+    text_byte(p, '\n');
+}
+
+static void text_read(struct place *p, const struct set *s, size_t k)
+{
+    const uint8_t kind = s->reads[k].kind, index = s->reads[k].index;
+    text_bytes(p, kind == 0 ? "sensor" : "past");
+    text_name(p, s->reads[k].name);
+    if (kind != 0) {
+        text_bytes(p, " of");
+        text_name(p, kind == 1 ? s->outputs[index].name : s->reads[index].name);
+    }
+    text_byte(p, '\n');
+}
+
+static size_t text_lines(const struct set *s, uint8_t *buf, size_t len)
+{
+    struct place p = { buf, len, 0 };
+    for (size_t j = 0; j < s->n; j++) {
+        text_bytes(&p, "output");
+        text_name(&p, s->outputs[j].name);
+        text_byte(&p, '\n');
+    }
+    for (size_t k = 0; k < s->r; k++)
+        text_read(&p, s, k);
+    for (size_t i = 0; i < s->m; i++)
+        text_constraint(&p, s, &s->constraints[i]);
+    text_bytes(&p, "end\n");
+    return p.at;
+}
+
+// Measured first, as the proved code does.
+static unsigned put_text(const struct set *s, uint8_t *buf, size_t len)
+{
+    uint8_t none[1];
+    if (!is_well_formed(s))
+        return 20;
+    if (len < text_lines(s, none, sizeof none))
+        return 24;
+    text_lines(s, buf, len);
+    return 0;
+}
+
 // ---- the program
 
 // Where a checksum begins: not at 0, which answers of 0 would leave as it is however many they are.
@@ -676,6 +781,17 @@ static uint32_t write_often(const struct set *s, uint32_t times)
     return sum;
 }
 
+static uint32_t text_often(const struct set *s, uint32_t times)
+{
+    static uint8_t buf[65536];
+    uint32_t sum = SUM_BEGIN;
+    for (; times > 0; times--) {
+        sum = mix(sum, put_text(s, buf, sizeof buf));
+        sum = mix(sum, buf[times % 4096]);
+    }
+    return sum;
+}
+
 int main(void)
 {
     static uint8_t head[7], file[65536];
@@ -696,6 +812,8 @@ int main(void)
         sum = load_often(file, len, times);
     else if (head[0] == 4)
         sum = write_often(&s, times);
+    else if (head[0] == 5)
+        sum = text_often(&s, times);
     printf("%lu\n", (unsigned long)sum);
     return 0;
 }

@@ -19,6 +19,8 @@ const LOAD: u8 = 3;
 
 const WRITE: u8 = 4;
 
+const TEXT: u8 = 5;
+
 // The bytes of one scan: the sensor word and the request.
 const SCAN_BYTES: usize = 6;
 
@@ -178,6 +180,24 @@ fn write_often(set: Set, times: u32, buf: &mut [u8]) -> u32 {
     sum
 }
 
+// The set's text put over and over into one buffer, in the same way.
+fn text_often(set: Set, times: u32, buf: &mut [u8]) -> u32 {
+    let mut sum = SUM_BEGIN;
+    let mut left = times;
+    while 0 < left {
+        sum = mix8(sum, text::number_of(text::put_text(set, &mut *buf)));
+        sum = mix_byte(sum, &*buf, (left % 4096) as usize);
+        left = left - 1;
+    }
+    sum
+}
+
+// With room for the text of any set.
+fn text_set(set: Set, times: u32) -> u32 {
+    let mut buf = io::large_buffer();
+    text_often(set, times, &mut buf)
+}
+
 fn do_often(operation: u8, times: u32, file: &[u8]) -> u32 {
     let mut lent = io::buffer();
     let loaded = loader::load(file);
@@ -193,6 +213,9 @@ fn do_often(operation: u8, times: u32, file: &[u8]) -> u32 {
     }
     if operation == WRITE {
         return write_often(set, times, &mut lent);
+    }
+    if operation == TEXT {
+        return text_set(set, times);
     }
     0
 }
