@@ -22,7 +22,7 @@ use Rattle.header.specs.Header.{rawOf, headerOf}
 use Rattle.literal.specs.Literal.{narrows, withLiteral, literalsFrom}
 use Rattle.loader.specs.Load.{countsAt, nameField, kindOf, readField, readOf, readAt, readsFrom, outputOf, outputAt, outputsFrom, constraintAt, constraintsFrom, loadFrom, loadOf}
 use Rattle.decimal.specs.Decimal.{leading, decimal}
-use Rattle.text.specs.Text.{readLiteral, outputLiteral, neverLine, shownLines, spaced, linesText, textOf}
+use Rattle.text.specs.Text.{readLiteral, outputLiteral, neverLine, shownLines, spacedWords, linesText, textOf}
 use Rattle.promise.specs.Cases.{AllAnswered, starred, further, scanCases, findCases, textCases}
 
 pub starred-hold : AllAnswered starred
@@ -60,6 +60,6 @@ finds-worked = refl
 pub texts-worked : AllAnswered textCases
 unfolding onesIn odd bit popcount some all joined firstFrom first nameByte allNameBytes nameLength nameBytes sameName readNamed firstRead outputNamed
     firstOutput isUsed countTests zeroSet rawOf headerOf spelling nameField kindOf readField readOf readAt readsFrom outputOf outputAt outputsFrom narrows
-    withLiteral literalsFrom constraintAt constraintsFrom countsAt loadFrom loadOf leading decimal readLiteral outputLiteral neverLine shownLines spaced
+    withLiteral literalsFrom constraintAt constraintsFrom countsAt loadFrom loadOf leading decimal readLiteral outputLiteral neverLine shownLines spacedWords
     linesText textOf
 texts-worked = refl

@@ -9,7 +9,7 @@ use lib.Dec.{eqb}
 use lib.ListN.{length, getD}
 use borrow.Author.Tests.{ne-eqb}
 use Rattle.words.specs.Loop.{joined}
-use Rattle.text.specs.Text.{spaced, parted, linesText}
+use Rattle.text.specs.Text.{spacedWords, parted, linesText}
 use Rattle.promise.specs.Texts.{withByte, partsAt}
 
 -- ---- one part
@@ -69,15 +69,15 @@ solid-joined f zero a = tt
 solid-joined f (suc n) a = solid-append (joined n f) (f n) (solid-joined f n (λ k h. a k (omega arith))) (a n (omega arith))
 
 -- Words with one space between them are read back.
-words-back : (w : List ℕ) (ws : List (List ℕ)) → Solid w → AllSolid ws → partsAt 0x20 (w ++ spaced ws) ≡ w ∷ ws
-unfolding spaced
+words-back : (w : List ℕ) (ws : List (List ℕ)) → Solid w → AllSolid ws → partsAt 0x20 (w ++ spacedWords ws) ≡ w ∷ ws
+unfolding spacedWords
 words-back w [] s a = ap (partsAt 0x20) (append-none w) ∙ part-last 0x20 w (free 0x20 w (omega arith) s)
   where
     append-none : (l : List ℕ) → l ++ [] ≡ l
     append-none [] = refl
     append-none (x ∷ l) = ap (λ (r : List ℕ). x ∷ r) (append-none l)
 words-back w (v ∷ ws) s a =
-    part-then 0x20 w 0x20 (v ++ spaced ws) (free 0x20 w (omega arith) s) refl ∙ ap (λ (l : List (List ℕ)). w ∷ l) (words-back v ws (a .0) (a .1))
+    part-then 0x20 w 0x20 (v ++ spacedWords ws) (free 0x20 w (omega arith) s) refl ∙ ap (λ (l : List (List ℕ)). w ∷ l) (words-back v ws (a .0) (a .1))
 
 pub line-back : (line : List (List ℕ)) → SolidLine line → partsAt 0x20 (parted line) ≡ line
 line-back [] s = absurd s
@@ -100,19 +100,19 @@ lines-each f (x ∷ l) d a = (a 0 (omega arith), lines-each f l d (λ k h. a (su
 
 -- words with spaces between them have no LF
 free-line : (line : List (List ℕ)) → SolidLine line → Free 0x0A (parted line)
-unfolding spaced
+unfolding spacedWords
 free-line [] s = absurd s
-free-line (w ∷ ws) s = both w (spaced ws) (free 0x0A w (omega arith) (s .0)) (rest ws (s .1))
+free-line (w ∷ ws) s = both w (spacedWords ws) (free 0x0A w (omega arith) (s .0)) (rest ws (s .1))
   where
     both : (x y : List ℕ) → Free 0x0A x → Free 0x0A y → Free 0x0A (x ++ y)
     both [] y a b k h = b k h
     both (c ∷ x) y a b zero h = a 0 (omega arith)
     both (c ∷ x) y a b (suc k) h = both x y (λ j l. a (suc j) (omega arith)) b k (omega arith)
 
-    rest : (ws : List (List ℕ)) → AllSolid ws → Free 0x0A (spaced ws)
+    rest : (ws : List (List ℕ)) → AllSolid ws → Free 0x0A (spacedWords ws)
     rest [] a k h = absurd (omega arith)
     rest (v ∷ ws) a zero h = refl
-    rest (v ∷ ws) a (suc k) h = both v (spaced ws) (free 0x0A v (omega arith) (a .0)) (rest ws (a .1)) k (omega arith)
+    rest (v ∷ ws) a (suc k) h = both v (spacedWords ws) (free 0x0A v (omega arith) (a .0)) (rest ws (a .1)) k (omega arith)
 
 -- Lines with an LF behind each are read back, and nothing stands behind the last.
 pub lines-back : (ls : List (List (List ℕ))) → SolidLines ls → partsAt 0x0A (linesText ls) ≡ map parted ls ++ ([] ∷ [])

@@ -26,9 +26,9 @@ use Rattle.scan.specs.Set.{mostReads, mostOutputs, readPoint, outputPoint, kind
 use Rattle.scan.specs.Shape.{kindOk, isSensor, wellFormed}
 use Rattle.scan.proofs.ShapeLaws.{Masks, counts, lengths, masks, outs-lt, read-formed, points-formed}
 use Rattle.text.specs.Grammar.{output-word, sensor-word, past-word, of-word, never-word, and-word, on-word, off-word, rank-word, end-word}
-use Rattle.text.specs.Text.{outputLine, kindLine, readLine, stateWord, behind, namedBelow, namedReads, several, readLiteral, outputLiteral, neverLine, spaced, parted, shownLines, linesText, textOf}
+use Rattle.text.specs.Text.{outputLine, kindLine, readLine, stateWord, behind, namedBelow, namedReads, several, readLiteral, outputLiteral, neverLine, spacedWords, parted, shownLines, linesText, textOf}
 use Rattle.promise.specs.Allowed.{readName, outputName}
-use Rattle.promise.specs.Texts.{partsAt, linesOf, lineOf, wordsOf, ReadShown, TextSays}
+use Rattle.promise.specs.Texts.{partsAt, linesOf, lineAt, wordsOf, ReadShown, TextSays}
 use Rattle.promise.proofs.NameMeanings.{names-mean}
 use Rattle.promise.proofs.ConstraintsShown.{never-words, never-says}
 use Rattle.promise.proofs.TextLines.{Solid, AllSolid, SolidLine, SolidLines, solid-append, solid-joined, line-back, lines-both, lines-each, lines-back, line-at, solid-at, line-behind, lines-count}
@@ -202,7 +202,7 @@ module _ (s : Set) (ok : wellFormed s ≡ true) where
   unfolding textOf
   text-lines = ap (λ (l : List (List (List ℕ))). partsAt 0x0A (linesText l)) lines-shown ∙ lines-back lines lines-solid
 
-  text-line : (k : ℕ) → k < s .n + s .r + s .m + 1 → lineOf (textOf s) k ≡ parted (getD lines k [])
+  text-line : (k : ℕ) → k < s .n + s .r + s .m + 1 → lineAt (textOf s) k ≡ parted (getD lines k [])
   text-line k h = ap (λ (l : List (List ℕ)). getD l k []) text-lines ∙ line-at lines lines-solid k (omega (arith, lines-many))
 
   text-words : (k : ℕ) → k < s .n + s .r + s .m + 1 → wordsOf (textOf s) k ≡ getD lines k []
@@ -246,7 +246,7 @@ module _ (s : Set) (ok : wellFormed s ≡ true) where
 
   -- The text of a well-formed set says the set.
   pub text-says : TextSays s (textOf s)
-  unfolding spaced
+  unfolding spacedWords
   text-says = record {
     count = ap length text-lines ∙ lines-count lines ∙ omega (arith, lines-many);
     last = text-line (s .n + s .r + s .m) (omega arith) ∙ ap parted end-at;

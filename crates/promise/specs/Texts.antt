@@ -39,12 +39,12 @@ abbrev pub linesOf : List ℕ → List (List ℕ)
 linesOf text = partsAt 0x0A text
 
 -- line k
-abbrev pub lineOf : List ℕ → ℕ → List ℕ
-lineOf text k = getD (linesOf text) k []
+abbrev pub lineAt : List ℕ → ℕ → List ℕ
+lineAt text k = getD (linesOf text) k []
 
 -- the words of line k
 abbrev pub wordsOf : List ℕ → ℕ → List (List ℕ)
-wordsOf text k = partsAt 0x20 (lineOf text k)
+wordsOf text k = partsAt 0x20 (lineAt text k)
 
 -- ---- the words of the grammar
 
@@ -197,8 +197,8 @@ pub record NeverSays (s : Set) (i : ℕ) (line : List Shown) : Type 0 where
 pub record TextSays (s : Set) (text : List ℕ) : Type 0 where
   -- n lines of outputs, r of read points, m of constraints, and `end`; nothing stands behind its LF
   pub count : length (linesOf text) ≡ s .n + s .r + s .m + 2
-  pub last : lineOf text (s .n + s .r + s .m) ≡ endWord
-  pub nothing-after : lineOf text (s .n + s .r + s .m + 1) ≡ []
+  pub last : lineAt text (s .n + s .r + s .m) ≡ endWord
+  pub nothing-after : lineAt text (s .n + s .r + s .m + 1) ≡ []
   -- line j is `output` and the name of output j, to the byte
   pub outputs : (j : ℕ) → j < s .n → wordsOf text j ≡ outputWord ∷ outputName s j ∷ []
   -- then the read points by number, each with its kind

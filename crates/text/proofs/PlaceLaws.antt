@@ -12,7 +12,7 @@ use lib.Seq.{take-suc, take-suc-set, drop-set-lt}
 use borrow.Author.Tests.{lt-ltb}
 use Rattle.words.specs.Loop.{joined}
 use Rattle.words.proofs.LoopTurns.{Grows, joined-grow}
-use Rattle.text.specs.Text.{spaced, linesText}
+use Rattle.text.specs.Text.{spacedWords, linesText}
 use Rattle.text.specs.way.Place.{textEnd, next, placeAfter, putWithin, Within, lineBytes}
 
 -- ---- bytes behind bytes
@@ -60,31 +60,31 @@ within-same buf at x y after place e p = subst (λ (l : List ℕ). Within buf at
 
 -- ---- words behind words
 
-pub spaced-append : (x y : List (List ℕ)) → spaced (x ++ y) ≡ spaced x ++ spaced y
-unfolding spaced
+pub spaced-append : (x y : List (List ℕ)) → spacedWords (x ++ y) ≡ spacedWords x ++ spacedWords y
+unfolding spacedWords
 spaced-append [] y = refl
-spaced-append (w ∷ x) y = ap (λ (l : List ℕ). (0x20 ∷ w) ++ l) (spaced-append x y) ∙ sym (append-assoc (0x20 ∷ w) (spaced x) (spaced y))
+spaced-append (w ∷ x) y = ap (λ (l : List ℕ). (0x20 ∷ w) ++ l) (spaced-append x y) ∙ sym (append-assoc (0x20 ∷ w) (spacedWords x) (spacedWords y))
 
-pub words-then : (buf : List ℕ) (at : ℕ) (x y : List (List ℕ)) (mid after : List ℕ) (middle place : ℕ) → Within buf at (spaced x) mid middle
-    → Within mid middle (spaced y) after place → Within buf at (spaced (x ++ y)) after place
+pub words-then : (buf : List ℕ) (at : ℕ) (x y : List (List ℕ)) (mid after : List ℕ) (middle place : ℕ) → Within buf at (spacedWords x) mid middle
+    → Within mid middle (spacedWords y) after place → Within buf at (spacedWords (x ++ y)) after place
 words-then buf at x y mid after middle place p q =
-    within-same buf at (spaced x ++ spaced y) (spaced (x ++ y)) after place (sym (spaced-append x y)) (within-then buf at (spaced x) (spaced y) mid after middle place p q)
+    within-same buf at (spacedWords x ++ spacedWords y) (spacedWords (x ++ y)) after place (sym (spaced-append x y)) (within-then buf at (spacedWords x) (spacedWords y) mid after middle place p q)
 
 -- no words
-pub words-none : (buf : List ℕ) (at : ℕ) → Within buf at (spaced []) buf at
-unfolding spaced
+pub words-none : (buf : List ℕ) (at : ℕ) → Within buf at (spacedWords []) buf at
+unfolding spacedWords
 words-none buf at = within-none buf at
 
 -- a space and a word
 pub word-put : (buf : List ℕ) (at : ℕ) (w mid after : List ℕ) (middle place : ℕ) → Within buf at (0x20 ∷ []) mid middle → Within mid middle w after place
-    → Within buf at (spaced (w ∷ [])) after place
-unfolding spaced
+    → Within buf at (spacedWords (w ∷ [])) after place
+unfolding spacedWords
 word-put buf at w mid after middle place p q =
     within-same buf at (0x20 ∷ w) ((0x20 ∷ w) ++ []) after place (sym (append-nil (0x20 ∷ w))) (within-then buf at (0x20 ∷ []) w mid after middle place p q)
 
 -- the same words
-pub words-same : (buf : List ℕ) (at : ℕ) (x y : List (List ℕ)) (after : List ℕ) (place : ℕ) → x ≡ y → Within buf at (spaced x) after place → Within buf at (spaced y) after place
-words-same buf at x y after place e p = within-same buf at (spaced x) (spaced y) after place (ap spaced e) p
+pub words-same : (buf : List ℕ) (at : ℕ) (x y : List (List ℕ)) (after : List ℕ) (place : ℕ) → x ≡ y → Within buf at (spacedWords x) after place → Within buf at (spacedWords y) after place
+words-same buf at x y after place e p = within-same buf at (spacedWords x) (spacedWords y) after place (ap spacedWords e) p
 
 -- ---- bytes that have their places
 
@@ -140,11 +140,11 @@ pub bytes-grow : (bytes : List ℕ) → Grows (λ k. take k bytes) (λ k. getD b
 bytes-grow bytes = record { none = refl; one = λ k h. ap (λ (j : ℕ). take j bytes) (add-one k) ∙ take-suc bytes k 0 h }
 
 -- the words that a function of the number gives
-pub words-grow : (f : ℕ → List (List ℕ)) (n : ℕ) → Grows (λ k. spaced (joined k f)) (λ k. spaced (f k)) n
-unfolding spaced
+pub words-grow : (f : ℕ → List (List ℕ)) (n : ℕ) → Grows (λ k. spacedWords (joined k f)) (λ k. spacedWords (f k)) n
+unfolding spacedWords
 words-grow f n = record {
-  none = ap spaced (joined-grow f n .none);
-  one = λ k h. ap spaced (joined-grow f n .one k h) ∙ spaced-append (joined k f) (f k);
+  none = ap spacedWords (joined-grow f n .none);
+  one = λ k h. ap spacedWords (joined-grow f n .one k h) ∙ spaced-append (joined k f) (f k);
 }
 
 pub lines-append : (x y : List (List (List ℕ))) → linesText (x ++ y) ≡ linesText x ++ linesText y

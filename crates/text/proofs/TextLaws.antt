@@ -33,7 +33,7 @@ use Rattle.scan.proofs.ShapeLaws.{counts, masks}
 use Rattle.shape.specs.way.Names.{ReadNames, OutputNames}
 use Rattle.text.specs.declared.printing.TextPut.the-variants.{Put, BadSet, Short}
 use Rattle.text.specs.Grammar.{output-word, sensor-word, past-word, of-word, never-word, and-word, rank-word, end-word}
-use Rattle.text.specs.Text.{outputLine, kindLine, readLine, spaced, stateWord, rankWords, behind, namedBelow, namedReads, several, readLiteral, outputLiteral, neverLine, shownLines, linesText, textOf, textAnswer, bufferAfter}
+use Rattle.text.specs.Text.{outputLine, kindLine, readLine, spacedWords, stateWord, rankWords, behind, namedBelow, namedReads, several, readLiteral, outputLiteral, neverLine, shownLines, linesText, textOf, textAnswer, bufferAfter}
 use Rattle.text.specs.way.Place.{textEnd, putWithin, lineBytes, kindLineBy, literalIf, literalAt, neverLineBy, outputsBytes, readsBytes, constraintsBytes}
 use Rattle.text.proofs.PlaceLaws.{spaced-append, lines-append, put-is}
 
@@ -95,7 +95,7 @@ module _ (s : Set) (reads outputs : List (List ℕ)) (read-same : (k : ℕ) → 
   -- the lines of the points and constraints, and `end`
   pub text-told : ((outputsBytes (s .outputs) (s .n) ++ readsBytes reads outputs (s .reads) (s .r)) ++ constraintsBytes reads outputs (s .constraints) (s .m)) ++ (0x65 ∷ 0x6E ∷ 0x64 ∷ 0x0A ∷ [])
       ≡ textOf s
-  unfolding textOf shownLines linesText neverLine spaced
+  unfolding textOf shownLines linesText neverLine spacedWords
   text-told =
       let o = map outputLine (take (s .n) (s .outputs)) in
       let r = map (readLine s) (take (s .r) (s .reads)) in
@@ -122,42 +122,42 @@ name-most : (name : List ℕ) → length (nameBytes name) ≤ 8
 unfolding nameBytes nameLength
 name-most name = omega (arith, length-take (first namePlaces (zeroAt name)) name, first-spec namePlaces (zeroAt name) .within)
 
-spaced-long : (w : List ℕ) (ws : List (List ℕ)) → length (spaced (w ∷ ws)) ≡ 1 + length w + length (spaced ws)
-unfolding spaced
-spaced-long w ws = length-append (0x20 ∷ w) (spaced ws) ∙ omega arith
+spaced-long : (w : List ℕ) (ws : List (List ℕ)) → length (spacedWords (w ∷ ws)) ≡ 1 + length w + length (spacedWords ws)
+unfolding spacedWords
+spaced-long w ws = length-append (0x20 ∷ w) (spacedWords ws) ∙ omega arith
 
-spaced-none : length (spaced []) ≡ 0
-unfolding spaced
+spaced-none : length (spacedWords []) ≡ 0
+unfolding spacedWords
 spaced-none = refl
 
 state-most : (plain : Bool) → length (stateWord plain) ≤ 3
 state-most true = omega arith
 state-most false = omega arith
 
-rank-most : (b : Bool) (n : ℕ) → length (spaced (cond b (rank-word ∷ decimal n ∷ []) [])) ≤ 26
+rank-most : (b : Bool) (n : ℕ) → length (spacedWords (cond b (rank-word ∷ decimal n ∷ []) [])) ≤ 26
 rank-most true n = omega (arith, spaced-long rank-word (decimal n ∷ []), spaced-long (decimal n) [], spaced-none, decimal-short n)
 rank-most false n = omega (arith, spaced-none)
 
-behind-most : (others : Bool) (words : List (List ℕ)) (most : ℕ) → length (spaced words) ≤ most → length (spaced (behind others words)) ≤ 4 + most
+behind-most : (others : Bool) (words : List (List ℕ)) (most : ℕ) → length (spacedWords words) ≤ most → length (spacedWords (behind others words)) ≤ 4 + most
 behind-most true words most h = omega (arith, spaced-long and-word words)
 behind-most false words most h = omega arith
 
-cond-most : (there : Bool) (words : List (List ℕ)) (most : ℕ) → length (spaced words) ≤ most → length (spaced (cond there words [])) ≤ most
+cond-most : (there : Bool) (words : List (List ℕ)) (most : ℕ) → length (spacedWords words) ≤ most → length (spacedWords (cond there words [])) ≤ most
 cond-most true words most h = h
 cond-most false words most h = omega (arith, spaced-none)
 
-named-most : (name : List ℕ) (plain : Bool) (more : List (List ℕ)) (most : ℕ) → length (spaced more) ≤ most → length (spaced (nameBytes name ∷ stateWord plain ∷ more)) ≤ 13 + most
+named-most : (name : List ℕ) (plain : Bool) (more : List (List ℕ)) (most : ℕ) → length (spacedWords more) ≤ most → length (spacedWords (nameBytes name ∷ stateWord plain ∷ more)) ≤ 13 + most
 named-most name plain more most h = omega (arith, spaced-long (nameBytes name) (stateWord plain ∷ more), spaced-long (stateWord plain) more, name-most name, state-most plain)
 
 module _ (s : Set) where
-  read-literal-most : (c : Constraint) (k : ℕ) → length (spaced (readLiteral s c k)) ≤ 17
+  read-literal-most : (c : Constraint) (k : ℕ) → length (spacedWords (readLiteral s c k)) ≤ 17
   unfolding readLiteral
   read-literal-most c k =
       cond-most (bit k (namedReads c)) (behind (namedBelow (namedReads c) k) (nameBytes (readPoint (s .reads) k .name) ∷ stateWord (bit k (c .«read_plain»)) ∷ [])) 17
       (behind-most (namedBelow (namedReads c) k) (nameBytes (readPoint (s .reads) k .name) ∷ stateWord (bit k (c .«read_plain»)) ∷ []) 13
       (named-most (readPoint (s .reads) k .name) (bit k (c .«read_plain»)) [] 0 (omega (arith, spaced-none))))
 
-  output-literal-most : (c : Constraint) (k : ℕ) → length (spaced (outputLiteral s c k)) ≤ 43
+  output-literal-most : (c : Constraint) (k : ℕ) → length (spacedWords (outputLiteral s c k)) ≤ 43
   unfolding outputLiteral
   output-literal-most c k =
       let others = namedBelow (namedReads c) mostReads || namedBelow (outs c) k in
@@ -166,25 +166,25 @@ module _ (s : Set) where
       (behind-most others words 39
       (named-most (outputPoint (s .outputs) k .name) (bit k (c .«out_plain»)) (rankWords (several c) (rank c k)) 26 (rank-most (several c || not (eqb (rank c k) 0)) (rank c k))))
 
-joined-most : (f : ℕ → List (List ℕ)) (most : ℕ) → ((k : ℕ) → length (spaced (f k)) ≤ most) → (n : ℕ) → length (spaced (joined n f)) ≤ n * most
+joined-most : (f : ℕ → List (List ℕ)) (most : ℕ) → ((k : ℕ) → length (spacedWords (f k)) ≤ most) → (n : ℕ) → length (spacedWords (joined n f)) ≤ n * most
 unfolding joined
 joined-most f most h zero = omega (arith, spaced-none)
 joined-most f most h (suc n) =
-    omega (arith, ap length (spaced-append (joined n f) (f n)), length-append (spaced (joined n f)) (spaced (f n)), joined-most f most h n, h n, suc-mul n most)
+    omega (arith, ap length (spaced-append (joined n f) (f n)), length-append (spacedWords (joined n f)) (spacedWords (f n)), joined-most f most h n, h n, suc-mul n most)
 
 lines-most : {A : Type 0} (line : A → List (List ℕ)) (most : ℕ) → ((x : A) → length (lineBytes (line x)) ≤ most) → (xs : List A) → length (linesText (map line xs)) ≤ length xs * most
 unfolding linesText
 lines-most line most h [] = omega arith
 lines-most line most h (x ∷ xs) = omega (arith, length-append (lineBytes (line x)) (linesText (map line xs)), h x, lines-most line most h xs, suc-mul (length xs) most)
 
-line-long : (first : List ℕ) (words : List (List ℕ)) → length (lineBytes (first ∷ words)) ≡ length first + length (spaced words) + 1
-line-long first words = length-append (first ++ spaced words) (0x0A ∷ []) ∙ ap (λ (k : ℕ). k + 1) (length-append first (spaced words))
+line-long : (first : List ℕ) (words : List (List ℕ)) → length (lineBytes (first ∷ words)) ≡ length first + length (spacedWords words) + 1
+line-long first words = length-append (first ++ spacedWords words) (0x0A ∷ []) ∙ ap (λ (k : ℕ). k + 1) (length-append first (spacedWords words))
 
 both-long : (x y : List (List (List ℕ))) → length (linesText (x ++ y)) ≡ length (linesText x) + length (linesText y)
 both-long x y = ap length (lines-append x y) ∙ length-append (linesText x) (linesText y)
 
 end-long : length (linesText ((end-word ∷ []) ∷ [])) ≡ 4
-unfolding linesText spaced
+unfolding linesText spacedWords
 end-long = refl
 
 output-line-most : (p : OutputPoint) → length (lineBytes (outputLine p)) ≤ 16
@@ -218,7 +218,7 @@ module _ (s : Set) where
         arith,
         line-long never-word (r ++ o),
         ap length (spaced-append r o),
-        length-append (spaced r) (spaced o),
+        length-append (spacedWords r) (spacedWords o),
         joined-most (readLiteral s c) 17 (read-literal-most s c) mostReads,
         joined-most (outputLiteral s c) 43 (output-literal-most s c) mostOutputs,
       )

@@ -100,14 +100,14 @@ shownLines s =
     ++ ((end-word ∷ []) ∷ [])
 
 -- words with one space before each
-unfoldable pub spaced : List (List ℕ) → List ℕ
-spaced [] = []
-spaced (w ∷ ws) = (0x20 ∷ w) ++ spaced ws
+unfoldable pub spacedWords : List (List ℕ) → List ℕ
+spacedWords [] = []
+spacedWords (w ∷ ws) = (0x20 ∷ w) ++ spacedWords ws
 
 -- words with one space between them
 abbrev pub parted : List (List ℕ) → List ℕ
 parted [] = []
-parted (w ∷ ws) = w ++ spaced ws
+parted (w ∷ ws) = w ++ spacedWords ws
 
 -- lines, each with its end behind it
 unfoldable pub linesText : List (List (List ℕ)) → List ℕ

@@ -18,12 +18,12 @@ ghost use Rattle.words.specs.Loop.{joined};
 ghost use Rattle.scan.specs.Set.{mostReads, outs};
 ghost use Rattle.scan.specs.Names.{nameBytes};
 ghost use Rattle.text.specs.Grammar.{and-word};
-ghost use Rattle.text.specs.Text.{stateWord, rankWords, namedReads, several, spaced};
+ghost use Rattle.text.specs.Text.{stateWord, rankWords, namedReads, several, spacedWords};
 ghost use Rattle.text.specs.way.Place.{Within, literalIf, literalAt, readLiteralsBy, outputLiteralsBy};
 
 // `and`, where others stand before.
 fn put_and(buf: &mut [u8], at: usize, others: bool) -> usize
-    ensures { λ r. ⌜ Within (now (buf .entry)) at (spaced (cond others (and-word ∷ []) [])) (now (buf .exit)) r ⌝ }
+    ensures { λ r. ⌜ Within (now (buf .entry)) at (spacedWords (cond others (and-word ∷ []) [])) (now (buf .exit)) r ⌝ }
 {
     if others {
         return put_word(&mut *buf, at, b"and");
@@ -33,7 +33,7 @@ fn put_and(buf: &mut [u8], at: usize, others: bool) -> usize
 
 // `on` or `off`.
 fn put_state(buf: &mut [u8], at: usize, plain: bool) -> usize
-    ensures { λ r. ⌜ Within (now (buf .entry)) at (spaced (stateWord plain ∷ [])) (now (buf .exit)) r ⌝ }
+    ensures { λ r. ⌜ Within (now (buf .entry)) at (spacedWords (stateWord plain ∷ [])) (now (buf .exit)) r ⌝ }
 {
     if plain {
         return put_word(&mut *buf, at, b"on");
@@ -43,7 +43,7 @@ fn put_state(buf: &mut [u8], at: usize, plain: bool) -> usize
 
 // The rank, where the constraint names several outputs or it is not 0.
 fn put_rank(buf: &mut [u8], at: usize, several: bool, rank: u8) -> usize
-    ensures { λ r. ⌜ Within (now (buf .entry)) at (spaced (rankWords several rank)) (now (buf .exit)) r ⌝ }
+    ensures { λ r. ⌜ Within (now (buf .entry)) at (spacedWords (rankWords several rank)) (now (buf .exit)) r ⌝ }
 {
     if either(several, rank != 0) {
         let place = put_word(&mut *buf, at, b"rank");
@@ -64,7 +64,7 @@ fn put_literal(
     several: bool,
     rank: u8,
 ) -> usize
-    ensures { λ r. ⌜ Within (now (buf .entry)) at (spaced (literalIf there others (nameBytes (getD (now (names .entry)) k [])) plain several rank)) (now (buf .exit)) r ⌝ }
+    ensures { λ r. ⌜ Within (now (buf .entry)) at (spacedWords (literalIf there others (nameBytes (getD (now (names .entry)) k [])) plain several rank)) (now (buf .exit)) r ⌝ }
 {
     if there {
         let name = put_and(&mut *buf, at, others);
@@ -86,7 +86,7 @@ fn put_literals<'a>(
     ranks: &'a [u8],
     several: bool,
 ) -> usize
-    ensures { λ r. ⌜ Within (now (buf .entry)) at (spaced (joined (length (now (ranks .entry))) (literalAt begun (now (names .entry)) plain named (now (ranks .entry)) several))) (now (buf .exit)) r ⌝ }
+    ensures { λ r. ⌜ Within (now (buf .entry)) at (spacedWords (joined (length (now (ranks .entry))) (literalAt begun (now (names .entry)) plain named (now (ranks .entry)) several))) (now (buf .exit)) r ⌝ }
 {
     let mut place = at;
     let mut others = begun;
@@ -138,7 +138,7 @@ pub fn put_read_literals(
     c: Constraint,
     names: &[[u8; NAME_PLACES]],
 ) -> usize
-    ensures { λ r. ⌜ Within (now (buf .entry)) at (spaced (readLiteralsBy (now (names .entry)) c)) (now (buf .exit)) r ⌝ }
+    ensures { λ r. ⌜ Within (now (buf .entry)) at (spacedWords (readLiteralsBy (now (names .entry)) c)) (now (buf .exit)) r ⌝ }
 {
     let unranked = [0u8; MOST_READS];
     let named = named_reads(c);
@@ -162,7 +162,7 @@ pub fn put_output_literals(
     names: &[[u8; NAME_PLACES]],
 ) -> usize
     requires { ⌜ namedReads c < 2 ^ mostReads ⌝ }
-    ensures { λ r. ⌜ Within (now (buf .entry)) at (spaced (outputLiteralsBy (now (names .entry)) c)) (now (buf .exit)) r ⌝ }
+    ensures { λ r. ⌜ Within (now (buf .entry)) at (spacedWords (outputLiteralsBy (now (names .entry)) c)) (now (buf .exit)) r ⌝ }
 {
     let ranks = c.ranks;
     let others = 0 < named_reads(c);

@@ -8,7 +8,7 @@ ghost use mathlib.Core.List.{[], _∷_};
 ghost use lib.ListN.{getD};
 ghost use Rattle.scan.specs.Names.{nameBytes};
 ghost use Rattle.decimal.specs.Decimal.{decimal};
-ghost use Rattle.text.specs.Text.{spaced};
+ghost use Rattle.text.specs.Text.{spacedWords};
 ghost use Rattle.text.specs.way.Place.{next, Within};
 
 // No text has more bytes.
@@ -48,7 +48,7 @@ pub fn put_bytes(buf: &mut [u8], at: usize, bytes: &[u8]) -> usize
 
 // A word, with a space before it.
 pub fn put_word(buf: &mut [u8], at: usize, word: &[u8]) -> usize
-    ensures { λ r. ⌜ Within (now (buf .entry)) at (spaced (now (word .entry) ∷ [])) (now (buf .exit)) r ⌝ }
+    ensures { λ r. ⌜ Within (now (buf .entry)) at (spacedWords (now (word .entry) ∷ [])) (now (buf .exit)) r ⌝ }
 {
     let place = put_byte(&mut *buf, at, 0x20);
     put_bytes(&mut *buf, place, word)
@@ -56,7 +56,7 @@ pub fn put_word(buf: &mut [u8], at: usize, word: &[u8]) -> usize
 
 // A name.
 pub fn put_name(buf: &mut [u8], at: usize, name: [u8; NAME_PLACES]) -> usize
-    ensures { λ r. ⌜ Within (now (buf .entry)) at (spaced (nameBytes name ∷ [])) (now (buf .exit)) r ⌝ }
+    ensures { λ r. ⌜ Within (now (buf .entry)) at (spacedWords (nameBytes name ∷ [])) (now (buf .exit)) r ⌝ }
 {
     let len = name_length(name);
     put_word(&mut *buf, at, &name[0..len])
@@ -64,7 +64,7 @@ pub fn put_name(buf: &mut [u8], at: usize, name: [u8; NAME_PLACES]) -> usize
 
 // Name k of a list of names; none where the list is shorter.
 pub fn put_name_at(buf: &mut [u8], at: usize, names: &[[u8; NAME_PLACES]], k: usize) -> usize
-    ensures { λ r. ⌜ Within (now (buf .entry)) at (spaced (nameBytes (getD (now (names .entry)) k []) ∷ [])) (now (buf .exit)) r ⌝ }
+    ensures { λ r. ⌜ Within (now (buf .entry)) at (spacedWords (nameBytes (getD (now (names .entry)) k []) ∷ [])) (now (buf .exit)) r ⌝ }
 {
     if k < names.len() {
         let name = names[k];
@@ -75,7 +75,7 @@ pub fn put_name_at(buf: &mut [u8], at: usize, names: &[[u8; NAME_PLACES]], k: us
 
 // A number.
 pub fn put_number(buf: &mut [u8], at: usize, n: u8) -> usize
-    ensures { λ r. ⌜ Within (now (buf .entry)) at (spaced (decimal n ∷ [])) (now (buf .exit)) r ⌝ }
+    ensures { λ r. ⌜ Within (now (buf .entry)) at (spacedWords (decimal n ∷ [])) (now (buf .exit)) r ⌝ }
 {
     let digits = digits_of(n as usize);
     let bytes = digits.bytes;

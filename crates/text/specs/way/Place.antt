@@ -17,7 +17,7 @@ use Rattle.scan.specs.declared.set.Constraint.{Constraint}
 use Rattle.scan.specs.Set.{mostReads, mostOutputs, outs}
 use Rattle.scan.specs.Names.{nameBytes}
 use Rattle.text.specs.Grammar.{sensor-word, past-word, of-word, never-word}
-use Rattle.text.specs.Text.{outputLine, stateWord, rankWords, behind, namedBelow, namedReads, several, spaced, parted, linesText}
+use Rattle.text.specs.Text.{outputLine, stateWord, rankWords, behind, namedBelow, namedReads, several, spacedWords, parted, linesText}
 
 -- no text has more bytes
 abbrev pub textEnd : ℕ

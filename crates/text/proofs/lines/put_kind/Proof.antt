@@ -6,7 +6,7 @@ use denote.Ref.{now}
 use Rattle.scan.specs.declared.set.Kind.{Kind}
 use Rattle.scan.specs.Names.{nameBytes}
 use Rattle.text.specs.Grammar.{sensor-word}
-use Rattle.text.specs.Text.{spaced, parted}
+use Rattle.text.specs.Text.{spacedWords, parted}
 use Rattle.text.specs.way.Place.{kindLineBy}
 use Rattle.text.proofs.PlaceLaws.{within-same, within-then}
 use Rattle.text.proofs.lines.put_kind.Statement.{statement}
@@ -53,7 +53,7 @@ returns c =
     let a = t .before .before .before .before .args in
     within-same (now (a .buf)) (a .at) _ _ _ _
     (ap (λ (k : Kind). parted (kindLineBy (now (a .reads)) (now (a .outputs)) (nameBytes (a .p .name)) k)) (sym (t .enum-told .given .1)))
-    (within-then (now (a .buf)) (a .at) sensor-word (spaced (nameBytes (a .p .name) ∷ [])) _ _ _ _ (w .put-bytes .ensures) (n .put-name .ensures))
+    (within-then (now (a .buf)) (a .at) sensor-word (spacedWords (nameBytes (a .p .name) ∷ [])) _ _ _ _ (w .put-bytes .ensures) (n .put-name .ensures))
 
 same-length-2 : tie.Need-same-length-2
 same-length-2 c = search needs

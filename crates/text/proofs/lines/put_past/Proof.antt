@@ -5,7 +5,7 @@ use lib.ListN.{getD}
 use denote.Ref.{now}
 use Rattle.scan.specs.Names.{nameBytes}
 use Rattle.text.specs.Grammar.{past-word, of-word}
-use Rattle.text.specs.Text.{spaced}
+use Rattle.text.specs.Text.{spacedWords}
 use Rattle.text.proofs.PlaceLaws.{within-then, words-then}
 use Rattle.text.proofs.lines.put_past.Statement.{statement}
 use Rattle.text.proofs.lines.put_past.Tie as tie
@@ -41,7 +41,7 @@ returns c =
     let buf = now (a .buf) in
     let name = nameBytes (a .name) in
     let other = nameBytes (getD (now (a .names)) (a .k) []) in
-    within-then buf (a .at) past-word (spaced (name ∷ of-word ∷ other ∷ [])) _ _ _ _ (w .put-bytes .ensures)
+    within-then buf (a .at) past-word (spacedWords (name ∷ of-word ∷ other ∷ [])) _ _ _ _ (w .put-bytes .ensures)
     (words-then _ _ (name ∷ []) (of-word ∷ other ∷ []) _ _ _ _ (n .put-name .ensures)
     (words-then _ _ (of-word ∷ []) (other ∷ []) _ _ _ _ (o .put-word .ensures) (p .put-name-at .ensures)))
 

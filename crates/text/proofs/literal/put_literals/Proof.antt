@@ -8,7 +8,7 @@ use lib.ListN.{length}
 use denote.Ref.{now}
 use Rattle.words.specs.Loop.{joined}
 use Rattle.words.proofs.LoopTurns.{Grows}
-use Rattle.text.specs.Text.{namedBelow, spaced}
+use Rattle.text.specs.Text.{namedBelow, spacedWords}
 use Rattle.text.specs.way.Place.{literalAt}
 use Rattle.text.proofs.PlaceLaws.{words-same, Goes, goes-none, goes-one, goes-all, goes-kept, words-grow}
 use Rattle.text.proofs.LiteralLaws.{others-none, others-more, literal-turn}
@@ -17,13 +17,13 @@ use Rattle.text.proofs.literal.put_literals.Tie as tie
 
 abbrev Inv-loop : tie.InvT-loop
 Inv-loop buf₀ at begun names plain named ranks several place₀ others₀ k₀ buf place others k =
-    Goes (λ j. spaced (joined j (literalAt begun names plain named ranks several))) (length ranks) buf₀ at buf place k × (others ≡ (begun || namedBelow named k))
+    Goes (λ j. spacedWords (joined j (literalAt begun names plain named ranks several))) (length ranks) buf₀ at buf place k × (others ≡ (begun || namedBelow named k))
 
 abbrev μ-loop : tie.MeasureT-loop
 μ-loop buf₀ at begun names plain named ranks several place₀ others₀ k₀ buf place others k = length ranks - k
 
-grows : (s : tie.Start Inv-loop μ-loop) → let a = s .args in Grows (λ j. spaced (joined j (literalAt (a .begun) (now (a .names)) (a .plain) (a .named) (now (a .ranks)) (a .several))))
-    (λ k. spaced (literalAt (a .begun) (now (a .names)) (a .plain) (a .named) (now (a .ranks)) (a .several) k)) (length (now (a .ranks)))
+grows : (s : tie.Start Inv-loop μ-loop) → let a = s .args in Grows (λ j. spacedWords (joined j (literalAt (a .begun) (now (a .names)) (a .plain) (a .named) (now (a .ranks)) (a .several))))
+    (λ k. spacedWords (literalAt (a .begun) (now (a .names)) (a .plain) (a .named) (now (a .ranks)) (a .several) k)) (length (now (a .ranks)))
 grows s = let a = s .args in words-grow (literalAt (a .begun) (now (a .names)) (a .plain) (a .named) (now (a .ranks)) (a .several)) (length (now (a .ranks)))
 
 loop-holds : tie.Need-loop-holds Inv-loop μ-loop

@@ -8,7 +8,7 @@ use lib.ListN.{getD, List·getD-eq-default}
 use lib.Seq.{take-all}
 use denote.Ref.{now}
 use Rattle.scan.specs.Names.{nameBytes, nameLength}
-use Rattle.text.specs.Text.{spaced}
+use Rattle.text.specs.Text.{spacedWords}
 use Rattle.text.proofs.PlaceLaws.{within-same}
 use Rattle.text.proofs.place.put_name_at.Statement.{statement}
 use Rattle.text.proofs.place.put_name_at.Tie as tie
@@ -17,9 +17,9 @@ no-bytes : nameBytes [] ≡ []
 unfolding nameBytes
 no-bytes = take-all (nameLength []) [] (omega arith)
 
-no-word : (w : List ℕ) → w ≡ [] → spaced (w ∷ []) ≡ 0x20 ∷ []
-unfolding spaced
-no-word w e = ap (λ (v : List ℕ). spaced (v ∷ [])) e
+no-word : (w : List ℕ) → w ≡ [] → spacedWords (w ∷ []) ≡ 0x20 ∷ []
+unfolding spacedWords
+no-word w e = ap (λ (v : List ℕ). spacedWords (v ∷ [])) e
 
 mul-name : tie.Need-mul-name
 mul-name c = search needs
