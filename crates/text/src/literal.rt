@@ -1,5 +1,4 @@
 // The literals of a constraint, in a line that others may stand in before them.
-use super::place::put_bytes;
 use super::place::put_name_at;
 use super::place::put_number;
 use super::place::put_word;

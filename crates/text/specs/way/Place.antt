@@ -1,5 +1,5 @@
 -- The code's way to a text: bytes go to a place of a buffer and those behind it, as far as the buffer has them. The place is counted on in any case, so
--- that putting a text into a short buffer measures it; it stops at 65,536, which no text reaches.
+-- that putting a text into a short buffer measures it; it stops at 65,536, and no text is longer.
 -- Assumes nothing.
 use Prim.Native.Nat.{ℕ, _+_}
 use mathlib.Core.Path.{_≡_}
