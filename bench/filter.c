@@ -37,6 +37,7 @@ struct state {
     struct set set;
     uint16_t past_output;
     uint32_t past_sensor;
+    bool accepted; // a scan was accepted since the start
 };
 
 // At one read word: the holds, the most passes of a walk and, of each combined constraint whose read literals are true, the outputs named plain,
@@ -323,12 +324,14 @@ static bool is_sensor_word(const struct set *s, uint32_t sensor)
     return sensor >> s->r == 0 && (sensor & past) == 0;
 }
 
+// Until a scan is accepted a past sensor reads as the sensor does now.
 static uint32_t read_word(const struct state *st, uint32_t sensor)
 {
+    uint32_t before = st->accepted ? st->past_sensor : sensor;
     uint32_t w = 0;
     for (size_t k = 0; k < st->set.r; k++) {
         const struct read_point *p = &st->set.reads[k];
-        uint32_t bit = p->kind == SENSOR ? sensor >> k : p->kind == PAST_OUTPUT ? (uint32_t)st->past_output >> p->index : st->past_sensor >> p->index;
+        uint32_t bit = p->kind == SENSOR ? sensor >> k : p->kind == PAST_OUTPUT ? (uint32_t)st->past_output >> p->index : before >> p->index;
         w |= (bit & 1) << k;
     }
     return w;
@@ -354,6 +357,7 @@ static struct sent scan(struct state *st, uint32_t sensor, uint16_t request)
     }
     st->past_output = v;
     st->past_sensor = sensor;
+    st->accepted = true;
     return (struct sent){ 0, v, made };
 }
 

@@ -4,6 +4,7 @@ use super::answers::print_verdict;
 use super::answers::print_written;
 use super::files::line_of;
 use super::printing::end_line;
+use super::printing::print_accepted;
 use super::printing::print_behind;
 use super::printing::print_sum;
 use super::records::behind;
@@ -34,10 +35,11 @@ enum Operation {
     Text,
 }
 
-// What a call leaves: how many of the first bytes may have any content, and the outputs of the state that it returns.
+// What a call leaves: how many of the first bytes may have any content, and the outputs and the mark of the state that it returns.
 struct Left {
     free: usize,
     outputs: usize,
+    accepted: bool,
 }
 
 // With nothing free, and no state.
@@ -45,6 +47,7 @@ fn exact() -> Left {
     Left {
         free: 0,
         outputs: 0,
+        accepted: false,
     }
 }
 
@@ -70,7 +73,11 @@ fn lend_judge(set: Set, scratch: &mut [u8]) -> Left {
     let v = verdict::judge(set, scratch);
     print_verdict(b'/', v);
     let free = free_scratch(set.n, v);
-    Left { free, outputs: 0 }
+    Left {
+        free,
+        outputs: 0,
+        accepted: false,
+    }
 }
 
 fn lend_start(set: Set, scratch: &mut [u8]) -> Left {
@@ -79,7 +86,12 @@ fn lend_start(set: Set, scratch: &mut [u8]) -> Left {
     print_verdict(b'/', v);
     let free = free_scratch(set.n, v);
     let outputs = started.state.set.n;
-    Left { free, outputs }
+    let accepted = started.state.accepted;
+    Left {
+        free,
+        outputs,
+        accepted,
+    }
 }
 
 fn lend_line(told: Line, buf: &mut [u8]) -> Left {
@@ -110,6 +122,7 @@ fn print_lent(operation: Operation, set: Set, told: Line, arena: &mut [u8], len:
         print_sum(b':', behind(&*arena, left.free));
         if let Operation::Start = operation {
             print_behind(b'=', left.outputs);
+            print_accepted(b'/', left.accepted);
         }
     }
 }

@@ -122,6 +122,43 @@ const FILE_ENDLESS: [u8; 30] = [
     0x00,
 ];
 
+// Read point 1 is the past of sensor 0; "now, not past, A".
+const FILE_EDGE: [u8; 33] = [
+    0x01,
+    0x00,
+    0x02,
+    0x02,
+    0x01,
+    0x02,
+    0x00,
+    0x03,
+    0x00,
+    0x00,
+    0x73,
+    0x02,
+    0x00,
+    0x03,
+    0x02,
+    0x00,
+    0x70,
+    0x03,
+    0x00,
+    0x01,
+    0x41,
+    0x04,
+    0x00,
+    0x06,
+    0x00,
+    0x00,
+    0x81,
+    0x00,
+    0x40,
+    0x00,
+    0x05,
+    0x00,
+    0x00,
+];
+
 fn set_p() -> Set {
     let loaded = loader::load(&FILE_P);
     loaded.set
@@ -134,6 +171,11 @@ fn set_clashing() -> Set {
 
 fn set_endless() -> Set {
     let loaded = loader::load(&FILE_ENDLESS);
+    loaded.set
+}
+
+fn set_edge() -> Set {
+    let loaded = loader::load(&FILE_EDGE);
     loaded.set
 }
 
@@ -210,7 +252,8 @@ fn print_write(set: Set, buf: &mut [u8], from: usize) {
     print_test(is_filled(buf, from));
 }
 
-// The verdict and the start with this scratch: the answers, whether bytes from `from` on are untouched, and whether the state is zero.
+// The verdict and the start with this scratch: the answers, whether bytes from `from` on are untouched, whether the state is zero, and whether it
+// says that a scan was accepted.
 fn print_judged(set: Set, scratch: &mut [u8], from: usize) {
     let v = verdict::judge(set, scratch);
     print_verdict(b' ', v);
@@ -220,6 +263,7 @@ fn print_judged(set: Set, scratch: &mut [u8], from: usize) {
     let w = started.verdict;
     print_verdict(b' ', w);
     print_test(started.state.set.n == 0);
+    print_test(started.state.accepted);
 }
 
 fn print_found(set: Set, name: &[u8]) {
@@ -237,13 +281,17 @@ fn print_found(set: Set, name: &[u8]) {
     }
 }
 
-// One scan of a state made by hand: the answer, and the pasts of the state that comes back.
-fn print_scan(set: Set, past_output: u16, past_sensor: u32, sensor: u32, request: u16) {
-    let state = State {
+fn state_of(set: Set, past_output: u16, past_sensor: u32, accepted: bool) -> State {
+    State {
         set,
         past_output,
         past_sensor,
-    };
+        accepted,
+    }
+}
+
+// One scan of a state made by hand: the answer, and the pasts and the mark of the state that comes back.
+fn print_scan(state: State, sensor: u32, request: u16) {
     let scanned = machine::scan(state, sensor, request);
     let answer = scanned.answer;
     print_behind(b' ', machine::number_of(answer) as usize);
@@ -253,6 +301,7 @@ fn print_scan(set: Set, past_output: u16, past_sensor: u32, sensor: u32, request
     }
     print_behind(b' ', scanned.state.past_output as usize);
     print_behind(b' ', scanned.state.past_sensor as usize);
+    print_test(scanned.state.accepted);
     io::write_all(1, b",");
 }
 
@@ -269,8 +318,22 @@ fn print_found_p(name: &[u8]) {
     print_found(set_p(), name);
 }
 
+// One scan of P, with a state that says that a scan was accepted.
 fn print_scan_p(past_output: u16, past_sensor: u32, sensor: u32, request: u16) {
-    print_scan(set_p(), past_output, past_sensor, sensor, request);
+    print_scan(
+        state_of(set_p(), past_output, past_sensor, true),
+        sensor,
+        request,
+    );
+}
+
+// One scan of the edge set.
+fn print_scan_edge(past_sensor: u32, accepted: bool, sensor: u32, request: u16) {
+    print_scan(
+        state_of(set_edge(), 0, past_sensor, accepted),
+        sensor,
+        request,
+    );
 }
 
 fn print_writes() {
@@ -320,12 +383,27 @@ fn print_scans() {
     io::write_all(1, b"scan:");
     print_scan_p(4, 0, 2, 4);
     print_scan_p(3, 2, 2, 4);
-    print_scan(stray_constraint(), 0, 0, 0, 0);
+    print_scan(state_of(stray_constraint(), 0, 0, true), 0, 0);
     print_scan_p(3, 1, 2, 4);
     print_scan_p(3, 1, 0, 4);
     print_scan_p(3, 1, 1, 3);
-    print_scan(set_clashing(), 1, 0, 1, 0);
-    print_scan(set_clashing(), 1, 1, 0, 1);
+    print_scan(state_of(set_clashing(), 1, 0, true), 1, 0);
+    print_scan(state_of(set_clashing(), 1, 0, false), 1, 0);
+    print_scan(state_of(set_clashing(), 1, 1, true), 0, 1);
+    io::write_all(1, b"\n");
+}
+
+// A past sensor, read where a scan was accepted and not read where none was; and refusals, which leave the mark.
+fn print_edges() {
+    io::write_all(1, b"edge:");
+    print_scan_edge(0, true, 1, 1);
+    print_scan_edge(0, false, 1, 1);
+    print_scan_edge(1, true, 1, 1);
+    print_scan_edge(1, false, 1, 1);
+    print_scan_edge(2, false, 1, 1);
+    print_scan_edge(4, false, 1, 1);
+    print_scan_edge(0, false, 2, 1);
+    print_scan_edge(0, false, 1, 2);
     io::write_all(1, b"\n");
 }
 
@@ -335,4 +413,5 @@ pub fn print_all() {
     print_verdicts();
     print_finds();
     print_scans();
+    print_edges();
 }

@@ -6,6 +6,9 @@ const NO_RECORD: usize = 65536;
 // The bytes of a pair of words: four and two.
 pub const PAIR: usize = 6;
 
+// The bytes of a state beside its set: a pair, and one for the mark.
+pub const STATE_BYTES: usize = 7;
+
 // The next record at the front of the buffer, and its length; more than 65,535 where the input ends before the record does, or the buffer.
 pub fn record(buf: &mut [u8]) -> usize {
     let mut head = [0u8; 2];

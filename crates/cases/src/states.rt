@@ -1,9 +1,12 @@
 // Lists of scans, and states made by hand.
 use super::answers::print_scan;
 use super::printing::end_line;
+use super::printing::print_accepted;
 use super::printing::print_behind;
 use super::records::PAIR;
+use super::records::STATE_BYTES;
 use super::records::behind;
+use super::records::byte;
 use super::records::four_of;
 use super::records::two_of;
 use scan::Set;
@@ -17,14 +20,16 @@ fn scan_one(state: State, sensor: u32, request: u16) -> State {
     scanned.state
 }
 
+// What a state has beside its set.
 fn print_pasts(state: State) {
     io::write_all(1, b" =");
     print_behind(b' ', state.past_sensor as usize);
     print_behind(b' ', state.past_output as usize);
+    print_accepted(b' ', state.accepted);
     end_line();
 }
 
-// The list of scans, of a words record, each of the state that the one before returned; and the pasts of the last state.
+// The list of scans, of a words record, each of the state that the one before returned; and the pasts and the mark of the last state.
 pub fn print_list(start: State, calls: &[u8]) {
     let mut state = start;
     let mut i: usize = 0;
@@ -36,22 +41,18 @@ pub fn print_list(start: State, calls: &[u8]) {
     print_pasts(state);
 }
 
-fn state_of(set: Set, past_output: u16, past_sensor: u32) -> State {
+// The state of the set with the pasts and the mark at the front of a words record.
+fn state_of(set: Set, words: &[u8]) -> State {
     State {
         set,
-        past_output,
-        past_sensor,
+        past_output: two_of(behind(words, 4)),
+        past_sensor: four_of(words),
+        accepted: byte(words, 6) != 0,
     }
 }
 
-// The scans of a words record whose first pair is the pasts of the state.
+// The scans of a words record that begins with a state; without one, of pasts 0, none accepted.
 pub fn print_state(set: Set, words: &[u8]) {
     io::write_all(1, b"STATE");
-    if words.len() < PAIR {
-        io::write_all(1, b" = 0 0\n");
-        return;
-    }
-    let past_sensor = four_of(words);
-    let past_output = two_of(behind(words, 4));
-    print_list(state_of(set, past_output, past_sensor), behind(words, PAIR));
+    print_list(state_of(set, words), behind(words, STATE_BYTES));
 }

@@ -1,5 +1,5 @@
 -- Lists of scans from a start of a set whose walks all reach a safe vector: every scan is right, and the state after the list is the set with
--- the two pasts of the list.
+-- the two pasts of the list, and the mark whether one of its calls is allowed.
 -- Assumes nothing.
 use mathlib.Core.Path.{_≡_, refl, sym, ap, _∙_, subst}
 use mathlib.Core.Bool.{Bool, true, false, _&&_}
@@ -16,7 +16,7 @@ use Rattle.scan.specs.Shape.{wellFormed}
 use Rattle.scan.specs.Walk.{Reaches, passesDue, vectorDue}
 use Rattle.machine.specs.Machine.{stateOk, sensorOk, requestOk, refused, scanOf}
 use Rattle.machine.specs.Told.{scanTold}
-use Rattle.machine.specs.History.{Call, allowed, pastSensor, pastOutput, readAfter, stateAfter, run, runState, followed, Right, AllRight}
+use Rattle.machine.specs.History.{Call, allowed, anyAllowed, pastSensor, sensorRead, pastOutput, readAfter, stateAfter, run, runState, followed, Right, AllRight}
 use Rattle.scan.proofs.PassLaws.{after-lt}
 use Rattle.machine.proofs.PastLaws.{read-lt, sensor-lt}
 use Rattle.machine.proofs.MachineLaws.{state-passes, request-lt, sends-due, scan-bad-sensor, scan-bad-request, scan-sends}
@@ -30,7 +30,7 @@ module _ (s : Set) (ok : wellFormed s ≡ true) (ends : (w : ℕ) → w < 2 ^ s 
 
   reaches : (before : List Call) (c : Call) → allowed s c ≡ true → Reaches s (readAfter s before c) (c .request)
   unfolding readAfter
-  reaches before c e = ends (readAfter s before c) (read-lt s (pastOutput s before) (pastSensor s before) (c .sensor)) (c .request) (request-lt s (c .request) (parts c e .1))
+  reaches before c e = ends (readAfter s before c) (read-lt s (pastOutput s before) (sensorRead s before c) (c .sensor)) (c .request) (request-lt s (c .request) (parts c e .1))
 
   past-sensor-lt : (before : List Call) → pastSensor s before < 2 ^ s .r
   unfolding pastSensor
@@ -49,13 +49,13 @@ module _ (s : Set) (ok : wellFormed s ≡ true) (ends : (w : ℕ) → w < 2 ^ s 
   state-ok : (before : List Call) → stateOk (stateAfter s before) ≡ true
   state-ok before = state-passes (stateAfter s before) ok (past-output-lt before) (past-sensor-lt before)
 
-  -- a call that is not allowed leaves the pasts, and one that is puts its own there
+  -- a call that is not allowed leaves the pasts and the mark, and one that is puts its own there
   state-kept : (before : List Call) (c : Call) → allowed s c ≡ false → stateAfter s (c ∷ before) ≡ stateAfter s before
-  unfolding pastSensor pastOutput
+  unfolding pastSensor pastOutput anyAllowed
   state-kept before c e = rw e
 
-  state-moved : (before : List Call) (c : Call) → allowed s c ≡ true → stateAfter s (c ∷ before) ≡ stateOf s (vectorDue s (readAfter s before c) (c .request)) (c .sensor)
-  unfolding pastSensor pastOutput readAfter
+  state-moved : (before : List Call) (c : Call) → allowed s c ≡ true → stateAfter s (c ∷ before) ≡ stateOf s (vectorDue s (readAfter s before c) (c .request)) (c .sensor) true
+  unfolding pastSensor pastOutput readAfter anyAllowed
   state-moved before c e = rw e
 
   -- ---- one scan of the list
@@ -74,9 +74,9 @@ module _ (s : Set) (ok : wellFormed s ≡ true) (ends : (w : ℕ) → w < 2 ^ s 
 
     sends : allowed s c ≡ true → scanned ≡ record {
       answer = Sent (vectorDue s (readAfter s before c) (c .request)) (passesDue s (readAfter s before c) (c .request));
-      state = stateOf s (vectorDue s (readAfter s before c) (c .request)) (c .sensor);
+      state = stateOf s (vectorDue s (readAfter s before c) (c .request)) (c .sensor) true;
     }
-    unfolding scanned readAfter
+    unfolding scanned readAfter sensorRead
     sends e = scan-sends (stateAfter s before) (c .sensor) (c .request) (state-ok before) (parts c e .0) (parts c e .1) (reaches before c e)
 
     right-one : Right s before c (scanned .answer)
@@ -113,7 +113,7 @@ module _ (s : Set) (ok : wellFormed s ≡ true) (ends : (w : ℕ) → w < 2 ^ s 
     subst (λ (st : State). AllRight s (c ∷ before) calls (run st calls)) (sym (state-next before c)) (all-right (c ∷ before) calls),
   )
 
-  -- the state after a list is the set with the two pasts of the list
+  -- the state after a list is the set with the two pasts and the mark of the list
   pub list-state : (before calls : List Call) → runState (stateAfter s before) calls ≡ stateAfter s (followed before calls)
   unfolding runState scanned
   list-state before [] = refl

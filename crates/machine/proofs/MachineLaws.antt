@@ -8,7 +8,8 @@ use mathlib.Core.List.{[], _∷_}
 use Prim.Native.Nat.{ℕ, zero, _^_, _-_, _≤_, _<_}
 use native.Mathlib.Nat.{eq-zero-or-pos}
 use native.Mathlib.Omega.{arith}
-use lib.Dec.{ltb}
+use lib.Dec.{eqb, ltb}
+use lib.ListN.{getD}
 use borrow.Author.Tests.{ltb-true, lt-ltb}
 use Rattle.words.specs.Loop.{iterate}
 use Rattle.words.proofs.BoolLaws.{by-test, clash, and-true}
@@ -24,7 +25,7 @@ use Rattle.scan.specs.Shape.{wellFormed}
 use Rattle.scan.specs.Constraint.{safe}
 use Rattle.scan.specs.Holds.{startVector, unheldCount}
 use Rattle.scan.specs.Walk.{walk, after, Reaches, FirstSafe, passesDue, vectorDue}
-use Rattle.machine.specs.Past.{readWord}
+use Rattle.machine.specs.Past.{sensorBefore, readWord}
 use Rattle.machine.specs.Machine.{stateOk, sensorOk, requestOk, refused, sending, scanOf}
 use Rattle.machine.specs.History.{Sends}
 use Rattle.machine.specs.Told.{scanTold}
@@ -97,6 +98,10 @@ module _ (s : Set) (ok : wellFormed s ≡ true) (w request : ℕ) (fits : reques
 
 -- ---- a scan, by its tests
 
+-- an answer whose number is not 0 is none that sends
+unsent : (a : ScanAnswer) → eqb (getD (scanTold a) 0 0) 0 ≡ false → (v k : ℕ) → a ≢ Sent v k
+unsent a n v k e = clash (ap (λ (x : ScanAnswer). eqb (getD (scanTold x) 0 0) 0) e) n
+
 module _ (st : State) (present request : ℕ) where
   pub scan-bad-state : stateOk st ≡ false → scanOf st present request ≡ refused st BadState
   unfolding scanOf
@@ -112,42 +117,49 @@ module _ (st : State) (present request : ℕ) where
 
   -- the read word of the scan
   abbrev pub scanWord : ℕ
-  scanWord = readWord (st .set) (st .«past_output») (st .«past_sensor») present
+  scanWord = readWord (st .set) (st .«past_output») (sensorBefore (st .accepted) (st .«past_sensor») present) present
 
   pub scan-walks : stateOk st ≡ true → sensorOk (st .set) present ≡ true → requestOk (st .set) request ≡ true
       → scanOf st present request ≡ sending st present (walk (st .set) scanWord request)
   unfolding scanOf
   scan-walks p q r = rw (p, q, r)
 
-  -- ---- the set, and a refused scan's state, stay as they are
+  -- ---- how a scan ends
 
-  sending-keeps : (x : Walk) → sending st present x .state .set ≡ st .set
-  sending-keeps (Safe v made) = refl
-  sending-keeps Never = refl
+  -- refused, and the state is as it was; or sent, and the state has the vector, this sensor word and the mark
+  pub data Ended (x : Scanned) : Type 0 where
+    stopped : ((v k : ℕ) → x .answer ≢ Sent v k) → x .state ≡ st → Ended x
+    sent : (v k : ℕ) → x .answer ≡ Sent v k → x .state ≡ stateOf (st .set) v present true → Ended x
 
-  sending-kept : (x : Walk) → ((v k : ℕ) → sending st present x .answer ≢ Sent v k) → sending st present x .state ≡ st
-  sending-kept (Safe v made) n = absurd (n _ _ refl)
-  sending-kept Never n = refl
-
-  -- what holds of every refusal and of every walk's end holds of the scan
-  by-scan {ℓ} : (P : Scanned → Type ℓ) → ((a : ScanAnswer) → P (refused st a)) → ((x : Walk) → P (sending st present x)) → P (scanOf st present request)
-  by-scan P stays goes =
+  pub scan-ended : Ended (scanOf st present request)
+  scan-ended =
       by-test (stateOk st)
       (λ p. by-test (sensorOk (st .set) present)
       (λ q. by-test (requestOk (st .set) request)
-      (λ r. subst P (sym (scan-walks p q r)) (goes (walk (st .set) scanWord request)))
-      (λ r. subst P (sym (scan-bad-request p q r)) (stays BadRequest)))
-      (λ q. subst P (sym (scan-bad-sensor p q)) (stays BadSensor)))
-      (λ p. subst P (sym (scan-bad-state p)) (stays BadState))
+      (λ r. subst Ended (sym (scan-walks p q r)) (walked (walk (st .set) scanWord request)))
+      (λ r. subst Ended (sym (scan-bad-request p q r)) (stopped (unsent BadRequest refl) refl)))
+      (λ q. subst Ended (sym (scan-bad-sensor p q)) (stopped (unsent BadSensor refl) refl)))
+      (λ p. subst Ended (sym (scan-bad-state p)) (stopped (unsent BadState refl) refl))
+    where
+      walked : (x : Walk) → Ended (sending st present x)
+      walked (Safe v made) = sent v made refl refl
+      walked Never = stopped (unsent Unsafe refl) refl
 
   -- no scan changes the set
   pub scan-keeps-set : scanOf st present request .state .set ≡ st .set
-  scan-keeps-set = by-scan (λ (x : Scanned). x .state .set ≡ st .set) (λ a. refl) sending-keeps
+  scan-keeps-set = go scan-ended
+    where
+      go : Ended (scanOf st present request) → scanOf st present request .state .set ≡ st .set
+      go (stopped n e) = ap (λ (x : State). x .set) e
+      go (sent v k a e) = ap (λ (x : State). x .set) e
 
   -- a refused scan gives the state as it was
   pub refused-keeps-state : ((v k : ℕ) → scanOf st present request .answer ≢ Sent v k) → scanOf st present request .state ≡ st
-  refused-keeps-state =
-      by-scan (λ (x : Scanned). ((v k : ℕ) → x .answer ≢ Sent v k) → x .state ≡ st) (λ a m. refl) sending-kept
+  refused-keeps-state n = go scan-ended
+    where
+      go : Ended (scanOf st present request) → scanOf st present request .state ≡ st
+      go (stopped m e) = e
+      go (sent v k a e) = absurd (n v k a)
 
   -- ---- words that pass 30 to 32
 
@@ -156,7 +168,7 @@ module _ (st : State) (present request : ℕ) where
     abbrev pub sentDue : Scanned
     sentDue = record {
       answer = Sent (vectorDue (st .set) scanWord request) (passesDue (st .set) scanWord request);
-      state = stateOf (st .set) (vectorDue (st .set) scanWord request) present;
+      state = stateOf (st .set) (vectorDue (st .set) scanWord request) present true;
     }
 
     due : Reaches (st .set) scanWord request → Due (st .set) (state-formed st p) scanWord request (request-lt (st .set) request r)

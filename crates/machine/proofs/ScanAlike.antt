@@ -17,7 +17,7 @@ use Rattle.scan.specs.Set.{stateOf}
 use Rattle.scan.specs.Shape.{isSensor, wellFormed}
 use Rattle.scan.specs.Holds.{unheldCount, startFrom, startVector}
 use Rattle.scan.specs.Walk.{walkBy, walk}
-use Rattle.machine.specs.Past.{reading, readingAt, readWord}
+use Rattle.machine.specs.Past.{sensorBefore, reading, readingAt, readWord}
 use Rattle.machine.specs.Machine.{stateOk, isPast, sensorOk, requestOk, refused, sending, scanOf}
 use Rattle.scan.proofs.LoneRanks.{AlikeButLone, F0-alike, F1-alike, unheld-alike, safe-alike, pass-alike}
 
@@ -28,10 +28,14 @@ module _ (s t : Set) (a : AlikeButLone s t) (w : ℕ) where
   walk-alike g = λ i.
       walkBy (fun-ext (safe-alike s t a w) i) (fun-ext (pass-alike s t a w) i) (2 ^ popcount (unheld-alike s t a w i) - 1) (startFrom (F0-alike s t a w i) (F1-alike s t a w i) g) 0
 
-module _ (s t : Set) (a : AlikeButLone s t) (formed : wellFormed s ≡ wellFormed t) (output sensor present request : ℕ) where
-  read-alike : readWord s output sensor present ≡ readWord t output sensor present
+module _ (s t : Set) (a : AlikeButLone s t) (formed : wellFormed s ≡ wellFormed t) (output sensor : ℕ) (accepted : Bool) (present request : ℕ) where
+  -- the past sensor word that the scan reads
+  before : ℕ
+  before = sensorBefore accepted sensor present
+
+  read-alike : readWord s output before present ≡ readWord t output before present
   unfolding readWord readingAt
-  read-alike = λ i. word (a .r-same i) (fun-ext (λ k. ap (reading output sensor present k) (a .kinds k)) i)
+  read-alike = λ i. word (a .r-same i) (fun-ext (λ k. ap (reading output before present k) (a .kinds k)) i)
 
   sensor-alike : sensorOk s present ≡ sensorOk t present
   unfolding sensorOk isPast
@@ -45,15 +49,15 @@ module _ (s t : Set) (a : AlikeButLone s t) (formed : wellFormed s ≡ wellForme
   answerBy : Bool → Bool → Bool → Walk → ScanAnswer
   answerBy p q r x = cond (not p) BadState (cond (not q) BadSensor (cond (not r) BadRequest (walked x)))
 
-  by-tests : (u : Set) → scanOf (stateOf u output sensor) present request .answer
-      ≡ answerBy (stateOk (stateOf u output sensor)) (sensorOk u present) (requestOk u request) (walk u (readWord u output sensor present) request)
-  unfolding scanOf answerBy walked
-  by-tests u = go (stateOk (stateOf u output sensor)) (sensorOk u present) (requestOk u request) (walk u (readWord u output sensor present) request)
+  by-tests : (u : Set) → scanOf (stateOf u output sensor accepted) present request .answer
+      ≡ answerBy (stateOk (stateOf u output sensor accepted)) (sensorOk u present) (requestOk u request) (walk u (readWord u output before present) request)
+  unfolding scanOf answerBy walked before
+  by-tests u = go (stateOk (stateOf u output sensor accepted)) (sensorOk u present) (requestOk u request) (walk u (readWord u output before present) request)
     where
       go : (p q r : Bool) (x : Walk)
-          → cond (not p) (refused (stateOf u output sensor) BadState)
-          (cond (not q) (refused (stateOf u output sensor) BadSensor)
-          (cond (not r) (refused (stateOf u output sensor) BadRequest) (sending (stateOf u output sensor) present x))) .answer ≡ answerBy p q r x
+          → cond (not p) (refused (stateOf u output sensor accepted) BadState)
+          (cond (not q) (refused (stateOf u output sensor accepted) BadSensor)
+          (cond (not r) (refused (stateOf u output sensor accepted) BadRequest) (sending (stateOf u output sensor accepted) present x))) .answer ≡ answerBy p q r x
       go true true true (Safe v made) = refl
       go true true true Never = refl
       go true true false x = refl
@@ -61,10 +65,10 @@ module _ (s t : Set) (a : AlikeButLone s t) (formed : wellFormed s ≡ wellForme
       go false q r x = refl
 
   -- a lone output's rank changes no answer
-  pub scan-alike : scanOf (stateOf s output sensor) present request .answer ≡ scanOf (stateOf t output sensor) present request .answer
+  pub scan-alike : scanOf (stateOf s output sensor accepted) present request .answer ≡ scanOf (stateOf t output sensor accepted) present request .answer
   unfolding stateOk requestOk
   scan-alike =
       by-tests s
       ∙ (λ i. answerBy (formed i && (lib.Dec.ltb output (2 ^ a .n-same i) && (lib.Dec.ltb sensor (2 ^ a .r-same i) && true))) (sensor-alike i)
-      (lib.Dec.ltb request (2 ^ a .n-same i)) ((walk-alike s t a (readWord s output sensor present) request ∙ ap (λ (w : ℕ). walk t w request) read-alike) i))
+      (lib.Dec.ltb request (2 ^ a .n-same i)) ((walk-alike s t a (readWord s output before present) request ∙ ap (λ (w : ℕ). walk t w request) read-alike) i))
       ∙ sym (by-tests t)

@@ -3,7 +3,7 @@
 use mathlib.Core.Path.{_≡_}
 use mathlib.Core.Logic.{_↔_}
 use Prim.Native.Nat.{ℕ, _≤_}
-use mathlib.Core.Bool.{Bool, true, false, cond, _&&_}
+use mathlib.Core.Bool.{Bool, true, false, cond, _&&_, _||_}
 use mathlib.Core.List.{List, [], _∷_}
 use Rattle.scan.specs.declared.set.Set.{Set}
 use Rattle.scan.specs.declared.set.State.{State}
@@ -12,7 +12,7 @@ use Rattle.scan.specs.Set.{stateOf}
 use Rattle.scan.specs.Constraint.{safe}
 use Rattle.scan.specs.Holds.{passLimit}
 use Rattle.scan.specs.Walk.{passesDue, vectorDue, FirstSafe}
-use Rattle.machine.specs.Past.{readWord}
+use Rattle.machine.specs.Past.{sensorBefore, readWord}
 use Rattle.machine.specs.Machine.{sensorOk, requestOk, scanOf}
 use Rattle.machine.specs.Told.{scanTold}
 
@@ -25,26 +25,35 @@ pub record Call : Type 0 where
 unfoldable pub allowed : Set → Call → Bool
 allowed s c = sensorOk s (c .sensor) && requestOk s (c .request)
 
+-- a scan was accepted before a call, told from the calls before it: one of them is allowed
+unfoldable pub anyAllowed : Set → List Call → Bool
+anyAllowed s [] = false
+anyAllowed s (b ∷ before) = allowed s b || anyAllowed s before
+
 -- The past sensor word that a call finds, told from the calls before it, the last one first: that of the last one that is allowed; a start's,
 -- 0, where there is none.
 unfoldable pub pastSensor : Set → List Call → ℕ
 pastSensor s [] = 0
 pastSensor s (b ∷ before) = cond (allowed s b) (b .sensor) (pastSensor s before)
 
+-- the past sensor word that a call reads: its own sensor word until a call is allowed
+unfoldable pub sensorRead : Set → List Call → Call → ℕ
+sensorRead s before c = sensorBefore (anyAllowed s before) (pastSensor s before) (c .sensor)
+
 -- the past output word that it finds: the vector due in that call
 unfoldable pub pastOutput : Set → List Call → ℕ
 pastOutput s [] = 0
 pastOutput s (b ∷ before) =
-    let due = vectorDue s (readWord s (pastOutput s before) (pastSensor s before) (b .sensor)) (b .request) in
+    let due = vectorDue s (readWord s (pastOutput s before) (sensorRead s before b) (b .sensor)) (b .request) in
     cond (allowed s b) due (pastOutput s before)
 
 -- the read word of a call in a list
 unfoldable pub readAfter : Set → List Call → Call → ℕ
-readAfter s before c = readWord s (pastOutput s before) (pastSensor s before) (c .sensor)
+readAfter s before c = readWord s (pastOutput s before) (sensorRead s before c) (c .sensor)
 
 -- the state that a list of calls leads to from a start of the set, the last call first
 abbrev pub stateAfter : Set → List Call → State
-stateAfter s before = stateOf s (pastOutput s before) (pastSensor s before)
+stateAfter s before = stateOf s (pastOutput s before) (pastSensor s before) (anyAllowed s before)
 
 -- ---- running a list: each scan is handed the state that the one before it returned
 

@@ -1,7 +1,7 @@
--- The read word of a scan.
+-- The read word of a scan, and the past sensor word that it reads.
 -- Assumes nothing.
 use Prim.Native.Nat.{ℕ}
-use mathlib.Core.Bool.{Bool}
+use mathlib.Core.Bool.{Bool, cond}
 use Rattle.words.specs.Word.{bit}
 use Rattle.words.specs.Loop.{word}
 use Rattle.scan.specs.declared.set.Kind.{Kind}
@@ -14,6 +14,10 @@ abbrev pub reading : ℕ → ℕ → ℕ → ℕ → Kind → Bool
 reading output sensor present k Sensor = bit k present
 reading output sensor present k (PastOutput i) = bit i output
 reading output sensor present k (PastSensor i) = bit i sensor
+
+-- the past sensor word that a scan reads: the state's; where no scan was accepted since the start, a past sensor reads as the sensor does now
+abbrev pub sensorBefore : Bool → ℕ → ℕ → ℕ
+sensorBefore accepted sensor present = cond accepted sensor present
 
 -- read point k of the set
 unfoldable pub readingAt : Set → ℕ → ℕ → ℕ → ℕ → Bool

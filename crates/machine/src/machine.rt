@@ -1,5 +1,6 @@
 // The scan machine: one scan of a state.
 use super::past::read_word;
+use super::past::sensor_before;
 use choice::both;
 use choice::keep32;
 use scan::Set;
@@ -104,13 +105,15 @@ pub fn scan(state: State, sensor: u32, request: u16) -> Scanned
     if !words::fits16(request, n) {
         return refuse(state, ScanAnswer::BadRequest);
     }
-    let w = read_word(state.set, state.past_output, state.past_sensor, sensor);
+    let before = sensor_before(state.accepted, state.past_sensor, sensor);
+    let w = read_word(state.set, state.past_output, before, sensor);
     let walked = walk_from(state.set, w, request);
     match walked {
         Walk::Safe { vector, passes } => {
             let mut next = state;
             next.past_output = vector;
             next.past_sensor = sensor;
+            next.accepted = true;
             Scanned {
                 answer: ScanAnswer::Sent { vector, passes },
                 state: next,

@@ -52,6 +52,7 @@ use Rattle.promise.proofs.OneText.{one-set, one-text}
 use Rattle.promise.proofs.TextRefusals.{text-refusals}
 use Rattle.promise.proofs.ExactVerdicts.{told-accepted, exact-verdict, exact-start}
 use Rattle.promise.proofs.ScanLists.{sends-mean, right-scans}
+use Rattle.promise.proofs.PowerUps.{power-up}
 
 -- ---- demand 1
 
@@ -158,6 +159,7 @@ promise = record {
   demand-3 = demand-3;
   meanings = meanings;
   reads = reads-mean;
+  power-up = power-up;
   name-bytes = name-bytes-iff;
   files = file-says;
   lone-ranks = lone-ranks-unread;

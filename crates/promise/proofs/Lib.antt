@@ -14,6 +14,7 @@ pub mod FileRefusals
 pub mod SetRefusals
 pub mod ScanRefusals
 pub mod ReadMeanings
+pub mod PowerUps
 pub mod NameRefusals
 pub mod NameMeanings
 pub mod PlaceMeanings

@@ -18,7 +18,7 @@ use Rattle.scan.specs.Walk.{after, passesDue, vectorDue}
 use Rattle.scan.proofs.PassLaws.{after-lt}
 use Rattle.machine.specs.Machine.{sensorOk, requestOk}
 use Rattle.machine.specs.Told.{scanTold}
-use Rattle.machine.specs.History.{Call, readAfter, run, runState, followed, stateAfter, pastSensor, pastOutput, Sends, Right, AllRight}
+use Rattle.machine.specs.History.{Call, readAfter, run, runState, followed, stateAfter, anyAllowed, pastSensor, pastOutput, Sends, Right, AllRight}
 use Rattle.machine.proofs.HistoryLaws.{all-right, list-state}
 use Rattle.verdict.specs.declared.verdict.Verdict.the-variants.{Accepted, BadSet, ShortScratch}
 use Rattle.verdict.specs.Judge.{scratchBytes, judgeOf}
@@ -127,7 +127,7 @@ module _ (s : Set) (room : ℕ) (e : judgeOf s room ≡ Accepted) (calls : List 
 
   -- the state of an accepted start is that before any call
   started : startOf s room .state ≡ stateAfter s []
-  unfolding startOf pastSensor pastOutput
+  unfolding startOf pastSensor pastOutput anyAllowed
   started = ap (startState s) e
 
   right : AllRight s [] calls (run (startOf s room .state) calls)

@@ -31,16 +31,16 @@ use Rattle.promise.proofs.PassMeanings.{ends-iff}
 pub state-iff : (st : State) → (stateOk st ≡ true) ↔ StateAllowed st
 state-iff st = (state-parts st, λ a. state-passes st (a .0) (a .1) (a .2))
 
+pub is-sensor : (x : Kind) → isSensor x ≡ true → x ≡ Sensor
+is-sensor Sensor e = refl
+is-sensor (PastOutput i) e = clash e refl
+is-sensor (PastSensor i) e = clash e refl
+
 pub sensor-iff : (s : Set) (present : ℕ) → (sensorOk s present ≡ true) ↔ SensorAllowed s present
 sensor-iff s present = (
   λ e. (sensor-lt s present e, λ k h b. is-sensor (kind s k) (sensor-bits s present e k (set-bit k present b) .1)),
   λ a. sensor-allowed s present (a .0) (λ k b. ap isSensor (a .1 k (bit-below (s .r) k present (a .0) b) (bit-set k present b))),
 )
-  where
-    is-sensor : (x : Kind) → isSensor x ≡ true → x ≡ Sensor
-    is-sensor Sensor e = refl
-    is-sensor (PastOutput i) e = clash e refl
-    is-sensor (PastSensor i) e = clash e refl
 
 pub request-iff : (s : Set) (request : ℕ) → (requestOk s request ≡ true) ↔ RequestAllowed s request
 request-iff s request = (request-lt s request, request-passes s request)

@@ -12,12 +12,12 @@ use Rattle.scan.specs.declared.set.State.{State}
 use Rattle.scan.specs.Set.{kind, readPoint, outputPoint}
 use Rattle.scan.specs.Names.{nameBytes}
 use Rattle.scan.specs.Shape.{wellFormed}
-use Rattle.machine.specs.Past.{readWord}
+use Rattle.machine.specs.Past.{sensorBefore, readWord}
 use Rattle.promise.specs.Terms.{Bit}
 
 -- ---- scans
 
--- a state: its set is well formed, its past output word has n bits and its past sensor word r bits
+-- a state: its set is well formed, its past output word has n bits and its past sensor word r bits, read or not
 abbrev pub StateAllowed : State → Type 0
 StateAllowed st = (wellFormed (st .set) ≡ true) × (st .«past_output» < 2 ^ st .set .n) × (st .«past_sensor» < 2 ^ st .set .r)
 
@@ -29,9 +29,9 @@ SensorAllowed s present = (present < 2 ^ s .r) × ((k : ℕ) → k < s .r → Bi
 abbrev pub RequestAllowed : Set → ℕ → Type 0
 RequestAllowed s request = request < 2 ^ s .n
 
--- the read word of a scan: the sensor word, with past points filled from the state
+-- the read word of a scan: the sensor word, with past points filled from the state; what it is, bit by bit, `ReadsMean` says (specs/Meanings)
 abbrev pub wordOf : State → ℕ → ℕ
-wordOf st present = readWord (st .set) (st .«past_output») (st .«past_sensor») present
+wordOf st present = readWord (st .set) (st .«past_output») (sensorBefore (st .accepted) (st .«past_sensor») present) present
 
 -- ---- names
 

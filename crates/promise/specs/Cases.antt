@@ -2,10 +2,12 @@
 -- Assumes nothing.
 use Prim.Native.Nat.{ℕ, _^_}
 use mathlib.Core.Path.{_≡_}
-use mathlib.Core.Bool.{cond, _||_}
+use mathlib.Core.Bool.{true, false, cond, _||_}
 use mathlib.Core.List.{List, [], _∷_, _++_, map}
 use lib.ListN.{take, replicate}
 use Rattle.words.specs.Word.{bit}
+use Rattle.scan.specs.declared.set.Kind.the-variants.{Sensor, PastSensor}
+use Rattle.scan.specs.declared.set.ReadPoint.{ReadPoint}
 use Rattle.scan.specs.declared.set.Set.{Set}
 use Rattle.scan.specs.declared.set.State.{State}
 use Rattle.scan.specs.Set.{zeroSet, stateOf, freshState}
@@ -14,7 +16,7 @@ use Rattle.shape.specs.Finding.{findOf}
 use Rattle.shape.specs.Told.{findTold}
 use Rattle.machine.specs.History.{Call, run}
 use Rattle.machine.specs.Told.{scanTold}
-use Rattle.scan.specs.Samples.{name7, name07, name007, setP, P, sensorS, nameA, setOf, product, clashing, endless, equalRanks, twoPairs, risingEdge, forcedOn, afterB, threePasses}
+use Rattle.scan.specs.Samples.{name7, name07, name007, setP, P, sensorS, nameA, readOf, setOf, product, clashing, endless, equalRanks, twoPairs, risingEdge, forcedOn, afterB, threePasses}
 use Rattle.verdict.specs.Judge.{judgeOf}
 use Rattle.start.specs.Start.{startOf}
 use Rattle.verdict.specs.Told.{verdictTold}
@@ -112,13 +114,33 @@ starred =
     ∷ scans equalRanks (call 0 3 ∷ []) (sent 0 1 ∷ [])
     -- "A and B" (A of lower rank), "A and C" (C of lower rank): request 7 sends 2, 1 pass
     ∷ scans twoPairs (call 0 7 ∷ []) (sent 2 1 ∷ [])
-    -- read point 1 is the past of sensor 0; "now, not past, A": scans of sensor 1, request 1 from a start send 0, then 1
-    ∷ scans risingEdge (call 1 1 ∷ call 1 1 ∷ []) (sent 0 0 ∷ sent 1 0 ∷ [])
+    -- read point 1 is the past of sensor 0; "now, not past, A": scans of sensor 1, request 1 from a start send 1, then 1: there is no edge on power-up
+    ∷ scans risingEdge (call 1 1 ∷ call 1 1 ∷ []) (sent 1 0 ∷ sent 1 0 ∷ [])
     ∷ []
+
+-- sensor t
+abbrev pub sensorT : ReadPoint
+sensorT = readOf Sensor (0x74 ∷ [])
 
 -- "s and not A", "s and A" for the second of two sensors: words 2 and 3 have no safe vector
 abbrev pub clashingLater : Set
-clashingLater = setOf (sensorS ∷ record { kind = sensorS .kind; name = 0x74 ∷ 0 ∷ 0 ∷ 0 ∷ 0 ∷ 0 ∷ 0 ∷ 0 ∷ [] } ∷ []) (nameA ∷ []) (product 2 0 0 1 [] ∷ product 2 0 1 0 [] ∷ [])
+clashingLater = setOf (sensorS ∷ sensorT ∷ []) (nameA ∷ []) (product 2 0 0 1 [] ∷ product 2 0 1 0 [] ∷ [])
+
+-- p, the past of read point i
+abbrev pub pastOf : ℕ → ReadPoint
+pastOf i = readOf (PastSensor i) (0x70 ∷ [])
+
+-- read point 1 is the past of sensor 0; "not now, past, A"
+abbrev pub fallingEdge : Set
+fallingEdge = setOf (sensorS ∷ pastOf 0 ∷ []) (nameA ∷ []) (product 2 1 1 0 [] ∷ [])
+
+-- read point 2 is the past of sensor 1; "now, not past, A"
+abbrev pub secondEdge : Set
+secondEdge = setOf (sensorS ∷ sensorT ∷ pastOf 1 ∷ []) (nameA ∷ []) (product 2 4 1 0 [] ∷ [])
+
+-- read point 2 is the past of sensor 0; "now, not past, A"; "t and A", "t and not A": with t on no vector is safe
+abbrev pub edgeAndClash : Set
+edgeAndClash = setOf (sensorS ∷ sensorT ∷ pastOf 0 ∷ []) (nameA ∷ []) (product 1 4 1 0 [] ∷ product 2 0 1 0 [] ∷ product 2 0 0 1 [] ∷ [])
 
 -- A file with every kind of point, a field to a line: sensors a and b, q the past of output Y, p the past of sensor b; outputs X, Y, Z; "b and not p
 -- and X"; "q and Z"; "X and Y", where Y yields; "not a and Y".
@@ -152,6 +174,10 @@ further =
     ∷ scans forcedOn (call 1 0 ∷ call 0 0 ∷ []) (sent 1 0 ∷ sent 0 0 ∷ [])
     -- the past of a refused scan is not read: neither its sensor word, nor a vector
     ∷ scans risingEdge (call 0 1 ∷ call 1 2 ∷ call 1 1 ∷ call 2 1 ∷ call 1 1 ∷ []) (sent 1 0 ∷ no 32 ∷ sent 0 0 ∷ no 31 ∷ sent 1 0 ∷ [])
+    -- refused scans are not the first; later edges count
+    ∷ scans risingEdge (call 1 2 ∷ call 2 1 ∷ call 1 1 ∷ call 0 1 ∷ call 1 1 ∷ call 1 1 ∷ []) (no 32 ∷ no 31 ∷ sent 1 0 ∷ sent 1 0 ∷ sent 0 0 ∷ sent 1 0 ∷ [])
+    -- read point 2 is the past of read point 1 and not of read point 0
+    ∷ scans secondEdge (call 2 1 ∷ call 1 1 ∷ call 2 1 ∷ call 3 1 ∷ []) (sent 1 0 ∷ sent 1 0 ∷ sent 0 0 ∷ sent 1 0 ∷ [])
     -- read point 0 is the past of output 1 and not of output 0
     ∷ scans afterB (call 0 1 ∷ call 0 1 ∷ call 0 2 ∷ call 0 1 ∷ call 0 1 ∷ []) (sent 1 0 ∷ sent 1 0 ∷ sent 2 0 ∷ sent 0 0 ∷ sent 1 0 ∷ [])
     -- all of 2 ^ f - 1 passes
@@ -165,21 +191,35 @@ further =
     ∷ loads (fileP ++ (0 ∷ [])) (12 ∷ 39 ∷ [])
     -- P from its bytes
     ∷ runs fileP (call 0 1 ∷ call 0 3 ∷ call 1 3 ∷ call 1 2 ∷ []) (sent 0 1 ∷ sent 3 0 ∷ sent 0 1 ∷ sent 0 0 ∷ [])
-    -- a and b: b has risen, so that X is off; then Y was on, so that Z is off, and Y yields to X
+    -- b is on from the first scan, which is no edge, and Y yields to X; a alone; b has risen, so that X is off, and Y was on, so that Z is off; Y was on
+    -- once more, and Y yields to X; without a Y is off
     ∷ runs fileOfKinds
-    (call 3 7 ∷ call 3 7 ∷ call 8 0 ∷ call 1 6 ∷ call 2 7 ∷ call 3 8 ∷ call 3 1 ∷ [])
-    (sent 6 0 ∷ sent 1 1 ∷ no 31 ∷ sent 6 0 ∷ sent 0 0 ∷ no 32 ∷ sent 1 0 ∷ [])
+    (call 3 7 ∷ call 1 6 ∷ call 3 7 ∷ call 3 7 ∷ call 8 0 ∷ call 2 7 ∷ call 3 8 ∷ call 3 1 ∷ [])
+    (sent 5 1 ∷ sent 6 0 ∷ sent 2 0 ∷ sent 1 1 ∷ no 31 ∷ sent 5 0 ∷ no 32 ∷ sent 1 0 ∷ [])
     ∷ []
 
 -- scans of states that no start gave
 abbrev pub scanCases : List Case
 scanCases =
     -- 30: a past output word out of width, a past sensor word out of width, a set that is not well formed
-    scansOf (stateOf P 4 0) (call 2 4 ∷ []) (no 30 ∷ [])
-    ∷ scansOf (stateOf P 0 2) (call 2 4 ∷ []) (no 30 ∷ [])
+    scansOf (stateOf P 4 0 true) (call 2 4 ∷ []) (no 30 ∷ [])
+    ∷ scansOf (stateOf P 0 2 true) (call 2 4 ∷ []) (no 30 ∷ [])
     ∷ scansOf (freshState zeroSet) (call 0 0 ∷ []) (no 30 ∷ [])
     -- a past sensor word may have bits at past points
-    ∷ scansOf (stateOf risingEdge 0 2) (call 1 1 ∷ []) (sent 0 0 ∷ [])
+    ∷ scansOf (stateOf risingEdge 0 2 true) (call 1 1 ∷ []) (sent 0 0 ∷ [])
+    -- a state that says that a scan was accepted reads its past sensor word, one that says no does not
+    ∷ scansOf (stateOf risingEdge 0 0 true) (call 1 1 ∷ call 1 1 ∷ []) (sent 0 0 ∷ sent 1 0 ∷ [])
+    ∷ scansOf (stateOf risingEdge 0 1 true) (call 1 1 ∷ []) (sent 1 0 ∷ [])
+    ∷ scansOf (stateOf risingEdge 0 0 false) (call 1 1 ∷ []) (sent 1 0 ∷ [])
+    ∷ scansOf (stateOf risingEdge 0 1 false) (call 1 1 ∷ []) (sent 1 0 ∷ [])
+    ∷ scansOf (stateOf fallingEdge 0 1 false) (call 0 1 ∷ call 0 1 ∷ []) (sent 1 0 ∷ sent 1 0 ∷ [])
+    ∷ scansOf (stateOf fallingEdge 0 1 true) (call 0 1 ∷ call 0 1 ∷ []) (sent 0 0 ∷ sent 1 0 ∷ [])
+    -- whose width still counts
+    ∷ scansOf (stateOf risingEdge 0 2 false) (call 1 1 ∷ []) (sent 1 0 ∷ [])
+    ∷ scansOf (stateOf risingEdge 0 4 false) (call 1 1 ∷ []) (no 30 ∷ [])
+    -- 33 is a refusal: it leaves the mark, and the scan behind it is the first that is accepted
+    ∷ scansOf (stateOf edgeAndClash 0 0 false) (call 2 0 ∷ call 1 1 ∷ []) (no 33 ∷ sent 1 0 ∷ [])
+    ∷ scansOf (stateOf edgeAndClash 0 0 true) (call 2 0 ∷ call 1 1 ∷ []) (no 33 ∷ sent 0 0 ∷ [])
     -- 33: with f = 0 at once, and after 2 ^ f - 1 passes; the state stays
     ∷ scansOf (freshState clashing) (call 1 0 ∷ call 0 1 ∷ []) (no 33 ∷ sent 1 0 ∷ [])
     ∷ scansOf (freshState endless) (call 0 1 ∷ call 0 0 ∷ []) (no 33 ∷ sent 0 0 ∷ [])

@@ -9,6 +9,7 @@ pub mod Verdicts
 pub mod Meanings
 pub mod Scans
 pub mod NeverTold
+pub mod PowerUp
 pub mod Promise
 pub mod Cases
 pub mod Lines

@@ -2,7 +2,7 @@
 -- the terms of specs/Terms. `Meanings` is said of every well-formed set, `ReadsMean` of every state, `NameBytesMean` of any bytes.
 -- Assumes nothing.
 use mathlib.Core.Path.{_≡_}
-use mathlib.Core.Bool.{true}
+use mathlib.Core.Bool.{Bool, true, false}
 use mathlib.Core.List.{List, _++_}
 use mathlib.Core.Logic.{_↔_, _⊎_, _≢_}
 use Prim.Native.Nat.{ℕ, zero, suc, _-_, _^_, _<_, _≤_}
@@ -101,7 +101,12 @@ pub record Meanings (s : Set) : Type 0 where
 -- ---- the read word of a state: the sensor word, with past points filled from the state
 
 pub record ReadsMean (st : State) (present : ℕ) : Type 0 where
-  pub point : (k : ℕ) → k < st .set .r → Bit k (wordOf st present) ↔ BitRead (kind (st .set) k) (st .«past_output») (st .«past_sensor») present k
+  -- where a scan was accepted since the start, a past sensor reads the past sensor word
+  pub later : st .accepted ≡ true → (k : ℕ) → k < st .set .r
+      → Bit k (wordOf st present) ↔ BitRead (kind (st .set) k) (st .«past_output») (st .«past_sensor») present k
+  -- where none was, it reads as the sensor does now
+  pub first : st .accepted ≡ false → (k : ℕ) → k < st .set .r
+      → Bit k (wordOf st present) ↔ BitRead (kind (st .set) k) (st .«past_output») present present k
   pub above : (k : ℕ) → st .set .r ≤ k → ¬ Bit k (wordOf st present)
 
 -- ---- a lone output's rank is kept and never read
@@ -125,7 +130,8 @@ pub record SameButLoneRanks (s t : Set) : Type 0 where
 -- such sets have the same verdicts, and scans of them the same answers
 pub record LoneRanksUnread (s t : Set) : Type 0 where
   pub verdict : (room : ℕ) → judgeOf s room ≡ judgeOf t room
-  pub scan : (output sensor present request : ℕ) → scanOf (stateWith s output sensor) present request .answer ≡ scanOf (stateWith t output sensor) present request .answer
+  pub scan : (output sensor : ℕ) (accepted : Bool) (present request : ℕ)
+      → scanOf (stateWith s output sensor accepted) present request .answer ≡ scanOf (stateWith t output sensor accepted) present request .answer
 
 -- ---- name bytes, of any bytes
 

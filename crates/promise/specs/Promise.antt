@@ -42,6 +42,7 @@ use Rattle.promise.specs.Texts.{Texts}
 use Rattle.promise.specs.Verdicts.{EndsSafe, GoodWord, BadWord, FirstNoVector, FirstNoEnd}
 use Rattle.promise.specs.Scans.{SendsDue, EveryRight, StateOfList}
 use Rattle.promise.specs.NeverTold.{NeverTold}
+use Rattle.promise.specs.PowerUp.{PowerUp}
 
 -- ---- demand 1: what is turned down, by which number, and what is left as it was
 
@@ -121,11 +122,12 @@ pub record Demand1 : Type 0 where
 -- ---- demand 2: what a scan sends, and files that come back
 
 -- A scan whose state and words are allowed, of any state, started or made by hand: it sends the walk's first safe vector and reports the passes
--- before it, at most 2 ^ f - 1, and the next state has that vector and this sensor word; or the walk never is safe, and the answer is 33.
+-- before it, at most 2 ^ f - 1, and the next state has that vector and this sensor word, and says that a scan was accepted; or the walk never is
+-- safe, and the answer is 33.
 abbrev pub Answers : State → ℕ → ℕ → Type 0
 Answers st present request =
     (SendsDue (st .set) (wordOf st present) request (scanOf st present request .answer)
-    × (scanOf st present request .state ≡ stateWith (st .set) (vectorDue (st .set) (wordOf st present) request) present))
+    × (scanOf st present request .state ≡ stateWith (st .set) (vectorDue (st .set) (wordOf st present) request) present true))
     ⊎ ((¬ EndsSafe (st .set) (wordOf st present) request) × (scanTold (scanOf st present request .answer) ≡ 33 ∷ []))
 
 -- Demand 2.
@@ -163,8 +165,8 @@ pub record ExactVerdict (s : Set) (room : ℕ) : Type 0 where
 pub record ExactStart (s : Set) (room : ℕ) : Type 0 where
   -- it says what the verdict says
   pub says : startOf s room .verdict ≡ judgeOf s room
-  -- where the set is accepted, it gives a state of the set that was judged, with both pasts 0
-  pub gives : verdictTold (judgeOf s room) ≡ 0 ∷ [] → startOf s room .state ≡ stateWith s 0 0
+  -- where the set is accepted, it gives a state of the set that was judged, with both pasts 0, which says that no scan was accepted
+  pub gives : verdictTold (judgeOf s room) ≡ 0 ∷ [] → startOf s room .state ≡ stateWith s 0 0 false
   -- where it is not, the state with every field zero
   pub refuses : verdictTold (judgeOf s room) ≢ 0 ∷ [] → startOf s room .state ≡ allZeroState
 
@@ -176,7 +178,7 @@ pub record RightScans (s : Set) (room : ℕ) (calls : List Call) : Type 0 where
   -- exactly when the request makes no constraint true
   pub answers : EveryRight s [] calls (run (startOf s room .state) calls)
   -- no scan changes the set, and the pasts are those of the list: the state after it is the set with the last allowed scan's vector due and
-  -- sensor word
+  -- sensor word, and says whether there was one
   pub state : StateOfList s (followed [] calls) (runState (startOf s room .state) calls)
   -- 30 and 33 never come
   pub never-30 : NeverTold 30 (run (startOf s room .state) calls)
@@ -198,6 +200,8 @@ pub record Promise : Type 0 where
   pub meanings : (s : Set) → wellFormed s ≡ true → Meanings s
   -- the read word of a scan, bit by bit
   pub reads : (st : State) (present : ℕ) → ReadsMean st present
+  -- no rising edge on power-up: the mark of a state, and the scans until one is accepted
+  pub power-up : PowerUp
   -- a name byte is 0x21 to 0x7E
   pub name-bytes : (bytes : List ℕ) → NameBytesMean bytes
   -- what a file says

@@ -2,6 +2,7 @@
 -- calls alone.
 -- Assumes nothing.
 use mathlib.Core.Path.{_≡_}
+use mathlib.Core.Bool.{true, false}
 use mathlib.Core.List.{List, [], _∷_}
 use mathlib.Core.Logic.{_⊎_, _↔_}
 use Prim.Native.Nat.{ℕ, _-_, _^_, _≤_, _<_}
@@ -52,11 +53,12 @@ abbrev pub dueAfter : Set → List Call → Call → ℕ
 dueAfter s before c = vectorDue s (readAfter s before c) (c .request)
 
 -- The read word of a call in a list: its own sensor word, and at a past point the bit that its index names in the vector due, or in the sensor
--- word, of the last earlier call whose words are allowed; where there is none, a start's pasts, which are 0.
+-- word, of the last earlier call whose words are allowed; where there is none, a start's past output word, which is 0, and for a past sensor the
+-- call's own sensor word: it reads as the sensor does now.
 pub record ReadsOfList (s : Set) (before : List Call) (c : Call) : Type 0 where
   pub last : (b : Call) (earlier : List Call) → LastAllowed s before b earlier → (k : ℕ) → k < s .r
       → Bit k (readAfter s before c) ↔ BitRead (kind s k) (dueAfter s earlier b) (b .sensor) (c .sensor) k
-  pub none : NoneAllowed s before → (k : ℕ) → k < s .r → Bit k (readAfter s before c) ↔ BitRead (kind s k) 0 0 (c .sensor) k
+  pub none : NoneAllowed s before → (k : ℕ) → k < s .r → Bit k (readAfter s before c) ↔ BitRead (kind s k) 0 (c .sensor) (c .sensor) k
   pub above : (k : ℕ) → s .r ≤ k → ¬ Bit k (readAfter s before c)
 
 -- ---- a list of scans from a start
@@ -75,7 +77,8 @@ EveryRight s before [] (a ∷ answers) = ⊥
 EveryRight s before (c ∷ calls) [] = ⊥
 EveryRight s before (c ∷ calls) (a ∷ answers) = RightScan s before c a × EveryRight s (c ∷ before) calls answers
 
--- the state after the calls: the set, with the vector due and the sensor word of the last one that is allowed; a start's where there is none
+-- the state after the calls: the set, with the vector due and the sensor word of the last one that is allowed, and the mark that says so; a start's
+-- where there is none
 pub record StateOfList (s : Set) (before : List Call) (st : State) : Type 0 where
-  pub last : (b : Call) (earlier : List Call) → LastAllowed s before b earlier → st ≡ stateWith s (dueAfter s earlier b) (b .sensor)
-  pub none : NoneAllowed s before → st ≡ stateWith s 0 0
+  pub last : (b : Call) (earlier : List Call) → LastAllowed s before b earlier → st ≡ stateWith s (dueAfter s earlier b) (b .sensor) true
+  pub none : NoneAllowed s before → st ≡ stateWith s 0 0 false

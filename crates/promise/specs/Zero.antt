@@ -1,6 +1,7 @@
 -- Values with every field zero, written out in full: what a refused load or start carries, and what stands in places beyond the counts. A zero point
 -- is kind 0, index 0.
 -- Assumes nothing.
+use mathlib.Core.Bool.{false}
 use lib.ListN.{replicate}
 use Rattle.scan.specs.declared.set.Kind.the-variants.{Sensor}
 use Rattle.scan.specs.declared.set.ReadPoint.{ReadPoint}
@@ -32,6 +33,6 @@ allZeroSet = record {
   constraints = replicate 64 allZeroConstraint;
 }
 
--- that set, and both pasts 0
+-- that set, both pasts 0, and no scan accepted
 abbrev pub allZeroState : State
-allZeroState = record { set = allZeroSet; «past_output» = 0; «past_sensor» = 0 }
+allZeroState = record { set = allZeroSet; «past_output» = 0; «past_sensor» = 0; accepted = false }

@@ -1,6 +1,7 @@
 -- What a set is made of, document 01's "Points and words": its limits, its parts by number, and the values with every field zero.
 -- Assumes nothing.
 use Prim.Native.Nat.{ℕ}
+use mathlib.Core.Bool.{Bool, false}
 use mathlib.Core.List.{List, []}
 use lib.ListN.{getD, replicate}
 use lib.Bits.{bitOr}
@@ -87,13 +88,13 @@ withConstraints s constraints = record { r = s .r; n = s .n; m = s .m; reads = s
 
 -- ---- states
 
--- a state of the set with the two pasts
-abbrev pub stateOf : Set → ℕ → ℕ → State
-stateOf s output sensor = record { set = s; «past_output» = output; «past_sensor» = sensor }
+-- a state of the set with the two pasts, and the mark whether a scan was accepted since the start
+abbrev pub stateOf : Set → ℕ → ℕ → Bool → State
+stateOf s output sensor accepted = record { set = s; «past_output» = output; «past_sensor» = sensor; accepted = accepted }
 
--- the state that a start of the set gives: both pasts 0
+-- the state that a start of the set gives: both pasts 0, and no scan accepted yet
 abbrev pub freshState : Set → State
-freshState s = stateOf s 0 0
+freshState s = stateOf s 0 0 false
 
 -- the state with every field zero, which a refused start carries
 abbrev pub zeroState : State

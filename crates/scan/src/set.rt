@@ -48,11 +48,12 @@ pub struct Set {
     pub constraints: [Constraint; MOST_CONSTRAINTS],
 }
 
-// A set, with the vector sent and the sensor word of the scan before.
+// A set, with the vector sent and the sensor word of the scan before, and whether a scan was accepted since the start.
 pub struct State {
     pub set: Set,
     pub past_output: u16,
     pub past_sensor: u32,
+    pub accepted: bool,
 }
 
 fn zero_read() -> ReadPoint

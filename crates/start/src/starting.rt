@@ -5,6 +5,7 @@ use scan::zero_set;
 use verdict::Verdict;
 use verdict::judge;
 ghost use mathlib.Core.Path.{_≡_};
+ghost use mathlib.Core.Bool.{false};
 ghost use lib.ListN.{length, drop};
 ghost use Rattle.scan.specs.Set.{stateOf};
 ghost use Rattle.verdict.specs.Judge.{looseBytes};
@@ -16,14 +17,15 @@ pub struct Started {
     pub state: State,
 }
 
-// The state of the set with both pasts 0.
+// The state of the set with both pasts 0, and no scan accepted yet.
 fn fresh(set: Set) -> State
-    ensures { λ r. ⌜ r ≡ stateOf set 0 0 ⌝ }
+    ensures { λ r. ⌜ r ≡ stateOf set 0 0 false ⌝ }
 {
     State {
         set,
         past_output: 0,
         past_sensor: 0,
+        accepted: false,
     }
 }
 

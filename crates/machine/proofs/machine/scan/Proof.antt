@@ -8,6 +8,7 @@ use Rattle.scan.specs.declared.walk.Walk.{Walk}
 use Rattle.scan.specs.declared.walk.Walk.the-variants.{Never}
 use Rattle.machine.specs.declared.machine.ScanAnswer.{ScanAnswer}
 use Rattle.machine.specs.declared.machine.Scanned.{Scanned}
+use Rattle.machine.specs.Past.{readWord}
 use Rattle.machine.specs.Machine.{stateOk, sensorOk, requestOk, refused, sending, scanOf}
 use Rattle.scan.specs.Shape.{wellFormed}
 use Rattle.scan.specs.Walk.{walk}
@@ -36,16 +37,17 @@ unfolding requestOk
 request-ok c = sym (c .before .fits16 .ensures) ∙ not-false (c .before .fits16 .result) (c .if3 .left)
 
 -- behind all three, at a walk that ends at x
-walked : (c : tie.After-walk-from) → let a = c .before .before .before .before .before .before .before .before .args in (x : Walk)
+walked : (c : tie.After-walk-from) → let a = c .before .before .before .before .before .before .before .before .before .args in (x : Walk)
     → c .walk-from .result ≡ x → sending (a .state) (a .sensor) x ≡ scanOf (a .state) (a .sensor) (a .request)
 walked c x e =
     let r = c .before in
-    let e3 = r .before in
+    let b = r .before in
+    let e3 = b .before in
     let e2 = e3 .before .before in
     let e1 = e2 .before .before in
     let a = e1 .before .before .args in
     ap (sending (a .state) (a .sensor))
-    (sym e ∙ c .walk-from .ensures ∙ ap (λ (w : ℕ). walk (a .state .set) w (a .request)) (r .read-word .ensures))
+    (sym e ∙ c .walk-from .ensures ∙ ap (λ (w : ℕ). walk (a .state .set) w (a .request)) (r .read-word .ensures ∙ ap (λ (x : ℕ). readWord (a .state .set) (a .state .«past_output») x (a .sensor)) (b .sensor-before .ensures)))
     ∙ sym (scan-walks (a .state) (a .sensor) (a .request) (state-ok e1) (sensor-ok e2) (request-ok e3))
 
 is-state-ok-requires : tie.Need-is-state-ok-requires
@@ -94,13 +96,16 @@ returns-3 c =
     ∙ sym (scan-bad-request (a .state) (a .sensor) (a .request) (state-ok e1) (sensor-ok e2)
     (sym (f .fits16 .ensures) ∙ not-true (f .fits16 .result) (c .before .if3 .taken)))
 
+sensor-before-requires : tie.Need-sensor-before-requires
+sensor-before-requires c κs = search needs
+
 read-word-requires : tie.Need-read-word-requires
 read-word-requires c κs =
-    let e1 = c .before .before .before .before in
+    let e1 = c .before .before .before .before .before in
     counts (e1 .before .before .args .state .set) (set-formed e1) .r-le
 
 walk-from-requires : tie.Need-walk-from-requires
-walk-from-requires c κs = set-formed (c .before .before .before .before .before)
+walk-from-requires c κs = set-formed (c .before .before .before .before .before .before)
 
 enum-known-walked : tie.Need-enum-known-walked
 enum-known-walked c = search needs
@@ -131,6 +136,7 @@ scan-spec =
     fits16-requires
     refuse-requires-3
     returns-3
+    sensor-before-requires
     read-word-requires
     walk-from-requires
     enum-known-walked

@@ -1,0 +1,191 @@
+-- No rising edge on power-up: what the mark says, what is read until a scan is accepted, and that a past sensor word is not read until then.
+-- Assumes nothing.
+use mathlib.Core.Path.{_≡_, refl, sym, ap, ap₂, subst, _∙_}
+use mathlib.Core.Bool.{true, false}
+use mathlib.Core.List.{List, [], _∷_}
+use mathlib.Core.Logic.{_⊎_, inl, inr, ⊎-elim, _↔_, _≢_}
+use Prim.Native.Nat.{ℕ, _^_, _<_}
+use native.Mathlib.Nat.{lt-trans}
+use lib.Dec.{ltb}
+use borrow.Author.Tests.{ltb-true, lt-ltb}
+use Rattle.words.proofs.BoolLaws.{by-test, clash, and-true}
+use Rattle.scan.specs.declared.set.Kind.{Kind}
+use Rattle.scan.specs.declared.set.Kind.the-variants.{Sensor, PastSensor}
+use Rattle.scan.specs.declared.set.Constraint.{Constraint}
+use Rattle.scan.specs.declared.set.Set.{Set}
+use Rattle.scan.specs.declared.set.State.{State}
+use Rattle.scan.specs.declared.walk.Walk.{Walk}
+use Rattle.scan.specs.declared.walk.Walk.the-variants.{Safe, Never}
+use Rattle.machine.specs.declared.machine.ScanAnswer.{ScanAnswer}
+use Rattle.machine.specs.declared.machine.ScanAnswer.the-variants.{Sent, BadState, BadSensor, BadRequest, Unsafe}
+use Rattle.machine.specs.declared.machine.Scanned.{Scanned}
+use Rattle.scan.specs.Set.{kind, readPoint}
+use Rattle.scan.specs.Shape.{wellFormed, kindOk, isSensor}
+use Rattle.scan.specs.Walk.{walk}
+use Rattle.scan.proofs.ShapeLaws.{points-formed, read-formed}
+use Rattle.machine.specs.Past.{readWord}
+use Rattle.machine.specs.Machine.{stateOk, sensorOk, requestOk, sending, scanOf}
+use Rattle.machine.specs.Told.{scanTold}
+use Rattle.machine.specs.History.{Call, readAfter, run, runState}
+use Rattle.machine.proofs.MachineLaws.{scan-bad-state, scan-bad-sensor, scan-bad-request, scan-walks, Ended, stopped, sent, scan-ended}
+use Rattle.promise.specs.Terms.{Bit, ReadsTrue, BitRead, stateWith}
+use Rattle.promise.specs.Allowed.{wordOf}
+use Rattle.promise.specs.Scans.{LastAllowed, NoneAllowed}
+use Rattle.promise.specs.PowerUp.{PastOf, PastsRead, AsksEdge, NoEdge, IsSent, SomeSent, PowerUp}
+use Rattle.promise.proofs.Numbers.{apart}
+use Rattle.promise.proofs.ScanRefusals.{is-sensor}
+use Rattle.promise.proofs.ReadMeanings.{reads-mean, reads-of-list}
+
+-- ---- edges
+
+-- the index of a past sensor names an earlier read point, and that is a sensor
+past-of-sensor : (s : Set) → wellFormed s ≡ true → (k i : ℕ) → PastOf s k i → (i < s .r) × (kind s i ≡ Sensor)
+unfolding kind kindOk
+past-of-sensor s ok k i p =
+    let formed = read-formed (s .reads) (s .n) k (points-formed s ok .read-ok k (p .0)) .kind-ok in
+    let by = and-true (ltb i k) (isSensor (readPoint (s .reads) i .kind)) (ap (kindOk (s .reads) (s .n) k) (sym (p .1)) ∙ formed) in
+    (lt-trans (ltb-true i k (by .0)) (p .0), is-sensor (readPoint (s .reads) i .kind) (by .1))
+
+module _ (s : Set) (w output sensor present : ℕ) (reads : (k : ℕ) → k < s .r → Bit k w ↔ BitRead (kind s k) output sensor present k) where
+  -- read point k, where its kind is known
+  of-kind : (x : Kind) (k : ℕ) → k < s .r → kind s k ≡ x → Bit k w ↔ BitRead x output sensor present k
+  of-kind x k h e = subst (λ (y : Kind). Bit k w ↔ BitRead y output sensor present k) e (reads k h)
+
+  pasts-read : PastsRead s w sensor
+  pasts-read k i p = of-kind (PastSensor i) k (p .0) (p .1)
+
+no-edge : (s : Set) → wellFormed s ≡ true → (w output present : ℕ) → ((k : ℕ) → k < s .r → Bit k w ↔ BitRead (kind s k) output present present k) → NoEdge s w present
+no-edge s ok w output present reads = record { now = now; none = none }
+  where
+    now : PastsRead s w present
+    now = pasts-read s w output present present reads
+
+    own : (k i : ℕ) → PastOf s k i → Bit i w ↔ Bit i present
+    own k i p = let q = past-of-sensor s ok k i p in of-kind s w output present present reads Sensor i (q .0) (q .1)
+
+    none : (c : Constraint) → AsksEdge s c → ¬ ReadsTrue c w
+    none c (k, i, p, inl e) t = t .1 k (e .1) (now k i p .1 (own k i p .0 (t .0 i (e .0))))
+    none c (k, i, p, inr e) t = t .1 i (e .0) (own k i p .1 (now k i p .0 (t .0 k (e .1))))
+
+-- ---- the mark
+
+sent-of : (a : ScanAnswer) (v k : ℕ) → scanTold a ≡ 0 ∷ v ∷ k ∷ [] → a ≡ Sent v k
+sent-of (Sent u j) v k e = let p : u ≡ v = cc in let q : j ≡ k = cc in ap₂ Sent p q
+sent-of BadState v k e = apart 30 0 [] _ refl e
+sent-of BadSensor v k e = apart 31 0 [] _ refl e
+sent-of BadRequest v k e = apart 32 0 [] _ refl e
+sent-of Unsafe v k e = apart 33 0 [] _ refl e
+
+-- an accepted scan's state
+sent-state : (st : State) (present request : ℕ) → IsSent (scanOf st present request .answer)
+    → (v : ℕ) × (scanOf st present request .state ≡ stateWith (st .set) v present true)
+sent-state st present request t = go (scan-ended st present request)
+  where
+    go : Ended st present request (scanOf st present request) → (v : ℕ) × (scanOf st present request .state ≡ stateWith (st .set) v present true)
+    go (stopped n e) = absurd (n (t .0) (t .1) (sent-of (scanOf st present request .answer) (t .0) (t .1) (t .2)))
+    go (sent v k a e) = (v, e)
+
+mark-of-one : (st : State) (present request : ℕ) → (scanOf st present request .state .accepted ≡ true) ↔ ((st .accepted ≡ true) ⊎ IsSent (scanOf st present request .answer))
+mark-of-one st present request = go (scan-ended st present request)
+  where
+    x : Scanned
+    x = scanOf st present request
+
+    go : Ended st present request x → (x .state .accepted ≡ true) ↔ ((st .accepted ≡ true) ⊎ IsSent (x .answer))
+    go (stopped n e) = (
+      λ m. inl (ap (λ (z : State). z .accepted) (sym e) ∙ m),
+      ⊎-elim (λ m. ap (λ (z : State). z .accepted) e ∙ m) (λ t. absurd (n (t .0) (t .1) (sent-of (x .answer) (t .0) (t .1) (t .2)))),
+    )
+    go (sent v k a e) = (λ m. inr (v, k, ap scanTold a), λ y. ap (λ (z : State). z .accepted) e)
+
+mark : (st : State) (calls : List Call) → (runState st calls .accepted ≡ true) ↔ ((st .accepted ≡ true) ⊎ SomeSent (run st calls))
+unfolding run runState
+mark st [] = (inl, ⊎-elim (λ m. m) absurd)
+mark st (c ∷ calls) =
+    let one = mark-of-one st (c .sensor) (c .request) in
+    let more = mark (scanOf st (c .sensor) (c .request) .state) calls in (
+      λ m. ⊎-elim (λ p. ⊎-elim (λ q. inl q) (λ t. inr (inl t)) (one .0 p)) (λ t. inr (inr t)) (more .0 m),
+      ⊎-elim (λ p. more .1 (inl (one .1 (inl p)))) (⊎-elim (λ t. more .1 (inl (one .1 (inr t)))) (λ t. more .1 (inr t))),
+    )
+
+-- ---- the past sensor word is not read until a scan is accepted
+
+module _ (s : Set) (output x y : ℕ) (hx : x < 2 ^ s .r) (hy : y < 2 ^ s .r) where
+  abbrev sx : State
+  sx = stateWith s output x false
+
+  abbrev sy : State
+  sy = stateWith s output y false
+
+  same-ok : stateOk sx ≡ stateOk sy
+  unfolding stateOk
+  same-ok = rw (lt-ltb x (2 ^ s .r) hx, lt-ltb y (2 ^ s .r) hy) refl
+
+  module _ (present request : ℕ) where
+    same-sent : (w : Walk) → sending sx present w .answer ≡ sending sy present w .answer
+    same-sent (Safe v made) = refl
+    same-sent Never = refl
+
+    -- two scans that end alike
+    ends : {a b : Scanned} → scanOf sx present request ≡ a → scanOf sy present request ≡ b → a .answer ≡ b .answer
+        → scanOf sx present request .answer ≡ scanOf sy present request .answer
+    ends e f g = ap (λ (z : Scanned). z .answer) e ∙ g ∙ sym (ap (λ (z : Scanned). z .answer) f)
+
+    same-answer : scanOf sx present request .answer ≡ scanOf sy present request .answer
+    same-answer =
+        by-test (stateOk sx)
+        (λ p. by-test (sensorOk s present)
+        (λ q. by-test (requestOk s request)
+        (λ r. ends (scan-walks sx present request p q r) (scan-walks sy present request (sym same-ok ∙ p) q r) (same-sent (walk s (readWord s output present present) request)))
+        (λ r. ends (scan-bad-request sx present request p q r) (scan-bad-request sy present request (sym same-ok ∙ p) q r) refl))
+        (λ q. ends (scan-bad-sensor sx present request p q) (scan-bad-sensor sy present request (sym same-ok ∙ p) q) refl))
+        (λ p. ends (scan-bad-state sx present request p) (scan-bad-state sy present request (sym same-ok ∙ p)) refl)
+
+    -- both are sent, and the states behind them are the same; or both are refused
+    same-end : (scanOf sx present request .state ≡ scanOf sy present request .state)
+        ⊎ ((scanOf sx present request .state ≡ sx) × (scanOf sy present request .state ≡ sy))
+    same-end = go (scan-ended sx present request) (scan-ended sy present request)
+      where
+        vector-of : (a b : ScanAnswer) (v k u j : ℕ) → a ≡ b → a ≡ Sent v k → b ≡ Sent u j → v ≡ u
+        vector-of a b v k u j e f g = cc
+
+        go : Ended sx present request (scanOf sx present request) → Ended sy present request (scanOf sy present request)
+            → (scanOf sx present request .state ≡ scanOf sy present request .state)
+            ⊎ ((scanOf sx present request .state ≡ sx) × (scanOf sy present request .state ≡ sy))
+        go (stopped n e) (stopped m f) = inr (e, f)
+        go (stopped n e) (sent v k a f) = absurd (n v k (same-answer ∙ a))
+        go (sent v k a e) (stopped m f) = absurd (m v k (sym same-answer ∙ a))
+        go (sent v k a e) (sent u j b f) =
+            inl (e ∙ ap (λ (z : ℕ). stateWith s z present true) (vector-of _ _ v k u j same-answer a b) ∙ sym f)
+
+  unread : (calls : List Call) → run sx calls ≡ run sy calls
+  unfolding run
+  unread [] = refl
+  unread (c ∷ calls) = ap₂ _∷_ (same-answer (c .sensor) (c .request)) (behind (same-end (c .sensor) (c .request)) (unread calls))
+    where
+      next : State → State
+      next st = scanOf st (c .sensor) (c .request) .state
+
+      behind : (next sx ≡ next sy) ⊎ ((next sx ≡ sx) × (next sy ≡ sy)) → run sx calls ≡ run sy calls → run (next sx) calls ≡ run (next sy) calls
+      behind (inl e) more = ap (λ (st : State). run st calls) e
+      behind (inr e) more = ap (λ (st : State). run st calls) (e .0) ∙ more ∙ sym (ap (λ (st : State). run st calls) (e .1))
+
+-- ---- what is promised
+
+pub power-up : PowerUp
+power-up = record {
+  mark = mark;
+  state-no-edge = λ st present ok e. no-edge (st .set) ok (wordOf st present) (st .«past_output») present (reads-mean st present .first e);
+  unread = unread;
+  state-next = next;
+  list-no-edge = λ s ok before n c. no-edge s ok (readAfter s before c) 0 (c .sensor) (reads-of-list s before c .none n);
+  list-next = λ s before b earlier l c. pasts-read s (readAfter s before c) _ (b .sensor) (c .sensor) (reads-of-list s before c .last b earlier l);
+}
+  where
+    next : (st : State) (present request : ℕ) → IsSent (scanOf st present request .answer) → (later : ℕ)
+        → PastsRead (st .set) (wordOf (scanOf st present request .state) later) present
+    next st present request t later =
+        let e = sent-state st present request t in
+        let behind = stateWith (st .set) (e .0) present true in
+        subst (λ (z : State). PastsRead (st .set) (wordOf z later) present) (sym (e .1))
+        (pasts-read (st .set) (wordOf behind later) (e .0) present later (reads-mean behind later .later refl))
