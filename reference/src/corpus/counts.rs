@@ -7,7 +7,7 @@ use crate::file::load;
 use crate::filter::{holds, pass, start_vector};
 use crate::machine::{scan, taken, ScanRefusal, State};
 use crate::raw::{form, well_formed, Form};
-use crate::records::{Case, Words};
+use crate::records::{Case, List, Words};
 use crate::set::Set;
 use std::collections::BTreeMap;
 
@@ -213,9 +213,9 @@ fn sorts_of_case(case: &Case, answer: &str) -> Vec<String> {
             let sorts = sorts_of_file(file, scans, answer);
             sorts.into_iter().map(String::from).collect()
         }
-        Case::State { file, words } => sorts_of_33(load(file).ok(), words),
-        Case::Raw { set, words, .. } => {
-            let mut sorts = sorts_of_33(well_formed(set), words);
+        Case::State { file, list } => sorts_of_33(load(file).ok(), list),
+        Case::Raw { set, list, .. } => {
+            let mut sorts = sorts_of_33(well_formed(set), list);
             sorts.push(sort_of_form(&form(set)));
             sorts
         }
@@ -270,11 +270,11 @@ fn passes(answer: &str) -> Vec<u32> {
 
 /// The scans from a hand-made state that are refused by 33, by what f is and
 /// by what the first pass does.
-fn sorts_of_33(set: Option<Set>, words: &[Words]) -> Vec<String> {
-    let (Some(set), [pasts, scans @ ..]) = (set, words) else {
+fn sorts_of_33(set: Option<Set>, list: &Option<List>) -> Vec<String> {
+    let (Some(set), Some(List { first, scans })) = (set, list) else {
         return Vec::new();
     };
-    let mut state = State::with_pasts(&set, *pasts);
+    let mut state = State::by_hand(&set, first);
     let mut sorts = Vec::new();
     for &(sensor, request) in scans {
         let before = state.clone();
