@@ -2,6 +2,9 @@
 //! marks that no start need have led to; and long lists of scans.
 
 use super::counters::{counting, holding, plain, Counter};
+use super::counts::MOST_SCANS;
+use super::marks::{before_mark, mark_of};
+use crate::answer::answer;
 use crate::chance::Chance;
 use crate::file::write;
 use crate::making::{scans, set, Recipe};
@@ -13,6 +16,7 @@ const SETS_EACH: usize = 80;
 const SCANS_EACH: usize = 12;
 const STUCK: usize = 40;
 const LONG_LISTS: usize = 12;
+const MOST_RAW: usize = 8;
 
 /// Hand-made states of all recipes, of sets with no way out, and of endless
 /// counters.
@@ -36,7 +40,14 @@ pub fn cases(chance: &mut Chance) -> Vec<Case> {
     }
     cases.extend(endless_counters(chance));
     cases.extend(few_words());
+    cases.push(longest_list(chance));
     cases
+}
+
+/// As many scans as there is room for behind a state.
+fn longest_list(chance: &mut Chance) -> Case {
+    let set = with_pasts(chance, Recipe::Planted);
+    by_hand(chance, &set, MOST_SCANS)
 }
 
 /// A set with a past output and a past sensor among its read points.
@@ -195,6 +206,29 @@ fn few_words() -> Vec<Case> {
     cases.extend(state(&file[..file.len() - 1], 3, 3, &[(1, 1)]));
     cases.push(empty(&[]));
     cases
+}
+
+/// The states made by hand that answer otherwise with the other mark, with that
+/// mark: so that each of them is there twice. Of sets made by hand, which are
+/// long, only some.
+pub fn other_marks(cases: &[Case]) -> Vec<Case> {
+    let mut others = Vec::new();
+    let mut raw = 0;
+    for case in cases {
+        let mut other = case.clone();
+        let Some(mark) = mark_of(&mut other) else {
+            continue;
+        };
+        *mark = u8::from(*mark == 0);
+        if before_mark(&answer(case)) == before_mark(&answer(&other)) {
+            continue;
+        }
+        raw += usize::from(matches!(other, Case::Raw { .. }));
+        if raw <= MOST_RAW || !matches!(other, Case::Raw { .. }) {
+            others.push(other);
+        }
+    }
+    others
 }
 
 /// Accepted sets with past points, and 100 to 600 scans from the start.
