@@ -6,7 +6,7 @@ use crate::lent::{sum, Arena};
 use crate::machine::{scan, start, State};
 use crate::program::{line, put_line};
 use crate::raw::well_formed;
-use crate::records::{Case, Words};
+use crate::records::{Case, Kept, List, Words};
 use crate::set::{Point, Set};
 use crate::text::{text, text_into};
 use crate::verdict::{judge, Verdict};
@@ -25,10 +25,10 @@ pub fn answer(case: &Case) -> String {
             let loaded = with_set(file, |set| file_lines(set, file, scans));
             format!("JUDGE {}{loaded}", line(file))
         }
-        Case::State { file, words } => with_set(file, |set| state_line(Some(set), words)),
+        Case::State { file, list } => with_set(file, |set| state_line(Some(set), list)),
         Case::Names { file, names } => with_set(file, |set| names_line(Some(set), names)),
         Case::Buffers { file, sizes } => with_set(file, |set| buffer_lines(set, file, sizes)),
-        Case::Raw { set, words, names } => raw_lines(well_formed(set).as_ref(), words, names),
+        Case::Raw { set, list, names } => raw_lines(well_formed(set).as_ref(), list, names),
     }
 }
 
@@ -75,7 +75,7 @@ fn printed(set: &Set) -> String {
 /// The start's verdict and, if the set is accepted, the answers to the scans.
 fn started(set: &Set, scans: &[Words]) -> String {
     match start(set) {
-        Ok(state) => format!("ACCEPT\n{}", list("SCANS", state, scans)),
+        Ok(state) => format!("ACCEPT\n{}", scanned("SCANS", state, scans)),
         Err(Verdict::NoVector(word)) => format!("NOVECTOR {word}\n"),
         Err(Verdict::NoEnd(word, request)) => format!("NOEND {word} {request}\n"),
         // Start gives a state in place of this verdict.
@@ -83,9 +83,9 @@ fn started(set: &Set, scans: &[Words]) -> String {
     }
 }
 
-/// A list of scans, each from the state the one before left, and the pasts of
-/// the last state.
-fn list(word: &str, mut state: State, scans: &[Words]) -> String {
+/// The answers to a list of scans, each from the state the one before left, and
+/// what the last state keeps.
+fn scanned(word: &str, mut state: State, scans: &[Words]) -> String {
     let mut line = String::from(word);
     for &(sensor, request) in scans {
         line += &match scan(&mut state, sensor, request) {
@@ -93,21 +93,28 @@ fn list(word: &str, mut state: State, scans: &[Words]) -> String {
             Err(refusal) => format!(" !{}", refusal.number()),
         };
     }
-    format!("{line} = {} {}\n", state.past_sensor, state.past_output)
+    let ending = ending(state.past_sensor, state.past_output, state.accepted);
+    format!("{line}{ending}\n")
 }
 
-/// A list of scans from a state made by hand: the first words are its pasts.
-/// No set stands for one that is not well formed: every scan is refused by 30.
-fn state_line(set: Option<&Set>, words: &[Words]) -> String {
-    let (pasts, scans) = match words {
-        [pasts, scans @ ..] => (*pasts, scans),
-        [] => ((0, 0), words),
+/// What stands behind the items of a list: both pasts and the mark.
+fn ending(past_sensor: u32, past_output: u16, accepted: bool) -> String {
+    format!(" = {past_sensor} {past_output} {}", u8::from(accepted))
+}
+
+/// A list of scans from a state made by hand. No set stands for one that is not
+/// well formed: every scan is refused by 30.
+fn state_line(set: Option<&Set>, list: &Option<List>) -> String {
+    let (first, scans) = match list {
+        Some(List { first, scans }) => (*first, scans.as_slice()),
+        None => (Kept::default(), [].as_slice()),
     };
     match set {
-        Some(set) => list("STATE", State::with_pasts(set, pasts), scans),
+        Some(set) => scanned("STATE", State::by_hand(set, &first), scans),
         None => {
             let refused = " !30".repeat(scans.len());
-            format!("STATE{refused} = {} {}\n", pasts.0, pasts.1)
+            let ending = ending(first.past_sensor, first.past_output, first.mark != 0);
+            format!("STATE{refused}{ending}\n")
         }
     }
 }
@@ -140,7 +147,7 @@ fn buffer_lines(set: &Set, file: &[u8], sizes: &[u16]) -> String {
     });
     let judges = each("JUDGES", &|size| judged_in(set, verdict, size));
     let starts = each("STARTS", &|size| {
-        let state = state_outputs(set, verdict, size);
+        let state = state_returned(set, verdict, size);
         format!("{}={state}", judged_in(set, verdict, size))
     });
     let lines = each("LINES", &|size| {
@@ -182,13 +189,14 @@ fn judged_in(set: &Set, verdict: Verdict, size: usize) -> String {
     format!("{}:{sum}", verdict_words(verdict))
 }
 
-/// The outputs of the set in the state that a start with this scratch gives.
-fn state_outputs(set: &Set, verdict: Verdict, size: usize) -> usize {
-    if size >= scratch(set) && verdict == Verdict::Accepted {
-        set.outputs.len()
-    } else {
-        0
+/// The outputs of the set in the state that a start with this scratch returns,
+/// and the mark. Where the start is refused, every field of the state is zero.
+fn state_returned(set: &Set, verdict: Verdict, size: usize) -> String {
+    if size < scratch(set) || verdict != Verdict::Accepted {
+        return String::from("0/0");
     }
+    let state = State::fresh(set);
+    format!("{}/{}", state.set.outputs.len(), u8::from(state.accepted))
 }
 
 fn verdict_words(verdict: Verdict) -> String {
@@ -200,7 +208,7 @@ fn verdict_words(verdict: Verdict) -> String {
 }
 
 /// The lines for a set made by hand; none stands for one not well formed.
-fn raw_lines(set: Option<&Set>, words: &[Words], names: &[Vec<u8>]) -> String {
+fn raw_lines(set: Option<&Set>, list: &Option<List>, names: &[Vec<u8>]) -> String {
     let answers = match set {
         None => ["20", "20", "20"].map(String::from),
         Some(set) => [
@@ -209,7 +217,7 @@ fn raw_lines(set: Option<&Set>, words: &[Words], names: &[Vec<u8>]) -> String {
             in_zeros(TEXT_BUFFER, |buffer| text_into(set, buffer)),
         ],
     };
-    items("SET", answers.into_iter()) + &names_line(set, names) + &state_line(set, words)
+    items("SET", answers.into_iter()) + &names_line(set, names) + &state_line(set, list)
 }
 
 /// What writing into a buffer of zeros answers, and the sum of the buffer.
@@ -243,7 +251,7 @@ mod tests {
             "FIND R0 O0 O1",
             &format!("TEXT {} {}", TEXT.len(), sum(TEXT.as_bytes())),
             &format!("{TEXT}ACCEPT"),
-            "SCANS 0/1 3/0 0/1 !31 !32 0/0 = 1 0",
+            "SCANS 0/1 3/0 0/1 !31 !32 0/0 = 1 0 1",
             "",
         ];
         assert_eq!(answer(&Case::File { file: p(), scans }), lines.join("\n"));
@@ -276,22 +284,35 @@ mod tests {
         let lines = answer(&Case::File { file, scans });
         assert!(lines.contains("\nTEXT 812 "));
         assert!(!lines.contains("output"));
-        assert!(lines.ends_with("\nACCEPT\nSCANS = 0 0\n"));
+        assert!(lines.ends_with("\nACCEPT\nSCANS = 0 0 0\n"));
+    }
+
+    /// A list of scans from these pasts (sensors, outputs) and this mark.
+    fn from(pasts: Words, mark: u8, scans: &[Words]) -> Option<List> {
+        let first = Kept {
+            past_sensor: pasts.0,
+            past_output: pasts.1,
+            mark,
+        };
+        let scans = scans.to_vec();
+        Some(List { first, scans })
     }
 
     #[test]
     fn a_state_made_by_hand() {
-        let of = |words: &[Words]| {
-            let words = words.to_vec();
-            answer(&Case::State { file: p(), words })
-        };
-        assert_eq!(of(&[]), "STATE = 0 0\n");
-        assert_eq!(of(&[(1, 2)]), "STATE = 1 2\n");
-        assert_eq!(of(&[(1, 2), (0, 4)]), "STATE !32 = 1 2\n");
-        assert_eq!(of(&[(1, 3), (0, 3), (2, 9)]), "STATE 3/0 !31 = 0 3\n");
+        let of = |list: Option<List>| answer(&Case::State { file: p(), list });
+        assert_eq!(of(None), "STATE = 0 0 0\n");
+        assert_eq!(of(from((1, 2), 0, &[])), "STATE = 1 2 0\n");
+        assert_eq!(of(from((1, 2), 1, &[])), "STATE = 1 2 1\n");
+        assert_eq!(of(from((1, 2), 255, &[])), "STATE = 1 2 1\n");
+        assert_eq!(of(from((1, 2), 0, &[(0, 4)])), "STATE !32 = 1 2 0\n");
+        assert_eq!(of(from((1, 2), 1, &[(0, 4)])), "STATE !32 = 1 2 1\n");
+        let sent = of(from((1, 3), 0, &[(0, 3), (2, 9)]));
+        assert_eq!(sent, "STATE 3/0 !31 = 0 3 1\n");
         // 30 comes before 31 and 32, and goes by width alone.
-        assert_eq!(of(&[(2, 0), (0, 0), (2, 9)]), "STATE !30 !30 = 2 0\n");
-        assert_eq!(of(&[(0, 4), (0, 0)]), "STATE !30 = 0 4\n");
+        let wide = of(from((2, 0), 0, &[(0, 0), (2, 9)]));
+        assert_eq!(wide, "STATE !30 !30 = 2 0 0\n");
+        assert_eq!(of(from((0, 4), 2, &[(0, 0)])), "STATE !30 = 0 4 1\n");
     }
 
     #[test]
@@ -320,7 +341,7 @@ mod tests {
         let lines = [
             format!("WRITES 24/39:{short} 0/39:{}", front(&P, 17)),
             format!("JUDGES 21:{short} 0:{}", filled(52)),
-            format!("STARTS 21:{short}=0 0:{}=2", filled(52)),
+            format!("STARTS 21:{short}=0/0 0:{}=2/0", filled(52)),
             format!("LINES 0:{short} 13:{}", front(b"ACCEPT 1 2 2\n", 43)),
             format!("TEXTS 24/{text}:{short} 24/{text}:{long}"),
             String::new(),
@@ -336,24 +357,26 @@ mod tests {
             buffer.resize(size, 0);
             format!("0/{}:{}", bytes.len(), sum(&buffer))
         };
-        let words = vec![(1, 3), (0, 1)];
+        let list = from((1, 3), 0, &[(0, 1)]);
         let names = vec![b"7".to_vec(), Vec::new()];
         let lines = [
             format!("SET {}", zeros(&P, 4096)),
             format!("0 {}", zeros(TEXT.as_bytes(), 40_000)),
         ];
-        let lines = format!("{}\nNAMES O1 !40\nSTATE 0/1 = 0 0\n", lines.join(" "));
-        assert_eq!(answer(&Case::Raw { set, words, names }), lines);
+        let lines = format!("{}\nNAMES O1 !40\nSTATE 0/1 = 0 0 1\n", lines.join(" "));
+        assert_eq!(answer(&Case::Raw { set, list, names }), lines);
     }
 
     #[test]
     fn a_set_that_is_not_well_formed() {
-        let case = Case::Raw {
-            set: vec![0; SET_BYTES],
-            words: vec![(u32::MAX, 7), (9, 9), (0, 0)],
-            names: vec![Vec::new(), b"7".to_vec()],
-        };
-        let lines = "SET 20 20 20\nNAMES !20 !20\nSTATE !30 !30 = 4294967295 7\n";
-        assert_eq!(answer(&case), lines);
+        for mark in [0, 1] {
+            let case = Case::Raw {
+                set: vec![0; SET_BYTES],
+                list: from((u32::MAX, 7), mark, &[(9, 9), (0, 0)]),
+                names: vec![Vec::new(), b"7".to_vec()],
+            };
+            let lines = "SET 20 20 20\nNAMES !20 !20\nSTATE !30 !30 = 4294967295 7";
+            assert_eq!(answer(&case), format!("{lines} {mark}\n"));
+        }
     }
 }

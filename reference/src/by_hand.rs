@@ -1,16 +1,18 @@
-//! Document 01's "Tried by hand" as files and scans, for the front of a corpus.
+//! Document 01's "Tried by hand" as files and scans, and the like for a later
+//! request, for the front of a corpus.
 
 use crate::damage::P;
-use crate::records::{Case, Words};
+use crate::records::{Case, Kept, List, Words};
 
-/// A file of sensors, pasts of sensor 0 and outputs, with constraints as they stand in a file.
-fn file(sensors: u8, pasts: u8, outputs: u8, constraints: &[&[u8]]) -> Vec<u8> {
-    let mut bytes = vec![1, 0, 2, sensors + pasts, outputs];
+/// A file of sensors, pasts of these sensors and outputs, with constraints as
+/// they stand in a file.
+fn file(sensors: u8, pasts: &[u8], outputs: u8, constraints: &[&[u8]]) -> Vec<u8> {
+    let mut bytes = vec![1, 0, 2, sensors + pasts.len() as u8, outputs];
     for number in 0..sensors {
         bytes.extend([2, 0, 4, 0, 0, b's', b'0' + number]);
     }
-    for number in 0..pasts {
-        bytes.extend([2, 0, 4, 2, 0, b'p', b'0' + number]);
+    for (number, &index) in pasts.iter().enumerate() {
+        bytes.extend([2, 0, 4, 2, index, b'p', b'0' + number as u8]);
     }
     for number in 0..outputs {
         bytes.extend([3, 0, 1, b'A' + number]);
@@ -31,6 +33,41 @@ fn p_exchanged() -> Vec<u8> {
     bytes
 }
 
+/// Read point 1 is the past of sensor 0; "now, not past, A".
+fn edge() -> Vec<u8> {
+    file(1, &[0], 1, &[&[0, 0, 0x81, 0, 0x40, 0]])
+}
+
+/// Document 02's "No rising edge on power-up": the edge from a start with
+/// refused scans before, the edge of a second sensor, and one scan from states
+/// made by hand: past sensor word and mark.
+pub fn power_up() -> Vec<Case> {
+    let second = file(2, &[1], 1, &[&[1, 0, 0x82, 0, 0x40, 0]]);
+    let mut cases = vec![
+        Case::File {
+            file: edge(),
+            scans: vec![(1, 2), (2, 1), (1, 1), (0, 1), (1, 1), (1, 1)],
+        },
+        Case::File {
+            file: second,
+            scans: vec![(2, 1), (1, 1), (2, 1), (3, 1)],
+        },
+    ];
+    for (past_sensor, mark) in [(0, 1), (0, 0), (1, 0), (1, 1), (2, 0), (4, 0)] {
+        let first = Kept {
+            past_sensor,
+            past_output: 0,
+            mark,
+        };
+        let scans = vec![(1, 1)];
+        cases.push(Case::State {
+            file: edge(),
+            list: Some(List { first, scans }),
+        });
+    }
+    cases
+}
+
 /// The cases in the order of the paper; for the last, files that are refused.
 pub fn cases() -> Vec<Case> {
     let case = |file: Vec<u8>, scans: &[Words]| Case::File {
@@ -42,26 +79,23 @@ pub fn cases() -> Vec<Case> {
     vec![
         case(P.to_vec(), &[(0, 1), (0, 3), (1, 3), (1, 2)]),
         case(p_exchanged(), &[(0, 1), (1, 1)]),
-        case(file(1, 0, 1, &[&[0, 0, 0xC0, 0], &[0, 0, 0x40, 0]]), &[]),
+        case(file(1, &[], 1, &[&[0, 0, 0xC0, 0], &[0, 0, 0x40, 0]]), &[]),
         case(
-            file(0, 0, 2, &[&[0x40, 1, 0xC1, 0], &[0x40, 1, 0x41, 0]]),
+            file(0, &[], 2, &[&[0x40, 1, 0xC1, 0], &[0x40, 1, 0x41, 0]]),
             &[],
         ),
-        case(file(0, 0, 2, &[&[0x40, 0, 0x41, 0]]), &[(0, 3)]),
+        case(file(0, &[], 2, &[&[0x40, 0, 0x41, 0]]), &[(0, 3)]),
         case(
-            file(0, 0, 3, &[&[0x40, 0, 0x41, 1], &[0x40, 1, 0x42, 0]]),
+            file(0, &[], 3, &[&[0x40, 0, 0x41, 1], &[0x40, 1, 0x42, 0]]),
             &[(0, 7)],
         ),
-        case(
-            file(1, 1, 1, &[&[0, 0, 0x81, 0, 0x40, 0]]),
-            &[(1, 1), (1, 1)],
-        ),
+        case(edge(), &[(1, 1), (1, 1)]),
         case(Vec::new(), &[]),
         case(P[..38].to_vec(), &[]),
         case(more, &[]),
-        case(file(16, 0, 8, &[]), &[(0xFFFF, 0xFF)]),
-        case(file(16, 0, 9, &[]), &[]),
-        case(file(1, 0, 0, &[]), &[]),
-        case(file(1, 0, 13, &[]), &[]),
+        case(file(16, &[], 8, &[]), &[(0xFFFF, 0xFF)]),
+        case(file(16, &[], 9, &[]), &[]),
+        case(file(1, &[], 0, &[]), &[]),
+        case(file(1, &[], 13, &[]), &[]),
     ]
 }

@@ -15,6 +15,11 @@ impl Chance {
         chance
     }
 
+    /// A generator of its own, drawn from this one, which is left as it is.
+    pub fn aside(&self) -> Chance {
+        Chance::new(self.state)
+    }
+
     fn next(&mut self) -> u64 {
         self.state ^= self.state << 13;
         self.state ^= self.state >> 7;

@@ -2,16 +2,18 @@
 //! pasts' width is here: a set that is not well formed is not made a `Set`.
 
 use crate::filter::{walk, Walk};
-use crate::records::Words;
+use crate::records::Kept;
 use crate::set::{bits, word, Kind, ReadPoint, Set};
 use crate::verdict::{judge, Verdict};
 
-/// A set and what the scan before sent and sensed.
+/// A set, what the scan before sent and sensed, and the mark: whether a scan
+/// was accepted since the start.
 #[derive(Clone, Debug, PartialEq, Eq)]
 pub struct State {
     pub set: Set,
     pub past_sensor: u32,
     pub past_output: u16,
+    pub accepted: bool,
 }
 
 /// The answer of a scan that is not refused.
@@ -42,17 +44,19 @@ impl ScanRefusal {
 }
 
 impl State {
-    /// The set with both pasts 0, judged or not.
+    /// A start's own state of a set, judged or not: both pasts 0, and no scan
+    /// was accepted.
     pub fn fresh(set: &Set) -> State {
-        State::with_pasts(set, (0, 0))
+        State::by_hand(set, &Kept::default())
     }
 
-    /// The set with these past words (sensors, outputs), allowed or not.
-    pub fn with_pasts(set: &Set, (past_sensor, past_output): Words) -> State {
+    /// The set with these past words, allowed or not, and this mark.
+    pub fn by_hand(set: &Set, kept: &Kept) -> State {
         State {
             set: set.clone(),
-            past_sensor,
-            past_output,
+            past_sensor: kept.past_sensor,
+            past_output: kept.past_output,
+            accepted: kept.mark != 0,
         }
     }
 }
@@ -75,12 +79,15 @@ pub fn scan(state: &mut State, sensor: u32, request: u16) -> Result<Sent, ScanRe
             state.past_sensor = sensor;
             // An output word has at most 12 bits.
             state.past_output = vector as u16;
+            state.accepted = true;
             Ok(Sent { vector, passes })
         }
     }
 }
 
 /// The read word and the request of a scan as bits, or refusal 30, 31 or 32.
+/// Until a scan is accepted there is none before it: a past sensor reads as its
+/// sensor does now, and the past sensor word is tested and not read.
 pub fn taken(
     state: &State,
     sensor: u32,
@@ -97,7 +104,8 @@ pub fn taken(
     let value = |(number, point): (usize, &ReadPoint)| match point.kind {
         Kind::Sensor => sensed[number],
         Kind::PastOutput(index) => past_output[index],
-        Kind::PastSensor(index) => past_sensor[index],
+        Kind::PastSensor(index) if state.accepted => past_sensor[index],
+        Kind::PastSensor(index) => sensed[index],
     };
     let reads = state.set.reads.iter().enumerate().map(value).collect();
     Ok((reads, asked))

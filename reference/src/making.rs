@@ -205,7 +205,7 @@ fn planted(chance: &mut Chance, r: usize, n: usize, m: usize) -> Vec<Constraint>
 }
 
 /// Output literals of which those of lowest rank are false at the target.
-fn towards(chance: &mut Chance, target: &[bool]) -> Vec<Literal> {
+pub fn towards(chance: &mut Chance, target: &[bool]) -> Vec<Literal> {
     let outputs = some_outputs(chance, target.len());
     let sure = outputs[chance.below(outputs.len())];
     let lowest = chance.below(100) as u8;

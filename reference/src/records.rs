@@ -1,14 +1,29 @@
 //! The corpus as bytes: cases of five kinds, each a byte for its kind and then
 //! its records, each a two-byte length and a body.
 
-/// A word of four bytes and one of two: a scan (sensor word, request) or the
-/// pasts of a state (past sensor word, past output word).
+/// A scan: sensor word and request.
 pub type Words = (u32, u16);
+
+/// What a state keeps beside its set.
+#[derive(Clone, Copy, Debug, Default, PartialEq, Eq)]
+pub struct Kept {
+    pub past_sensor: u32,
+    pub past_output: u16,
+    /// 0 says that no scan was accepted since the start, any other byte that
+    /// one was.
+    pub mark: u8,
+}
+
+/// A state made by hand, without its set, and the scans from it.
+#[derive(Clone, Debug, PartialEq, Eq)]
+pub struct List {
+    pub first: Kept,
+    pub scans: Vec<Words>,
+}
 
 /// The bytes of a set made by hand.
 pub const SET_BYTES: usize = 1798;
 
-const MOST_WORD_BYTES: usize = 4092;
 const MOST_LIST_BYTES: usize = 4096;
 const LARGEST_SIZE: u16 = 40_000;
 
@@ -17,16 +32,17 @@ const LARGEST_SIZE: u16 = 40_000;
 pub enum Case {
     /// `F`: a file, and scans to run from its start.
     File { file: Vec<u8>, scans: Vec<Words> },
-    /// `S`: a file, and the pasts of a state made by hand with scans after them.
-    State { file: Vec<u8>, words: Vec<Words> },
+    /// `S`: a file, and a state made by hand with scans after it. No list is
+    /// an empty record: pasts and mark 0, no scans.
+    State { file: Vec<u8>, list: Option<List> },
     /// `N`: a file, and names to find in it.
     Names { file: Vec<u8>, names: Vec<Vec<u8>> },
     /// `B`: a file, and sizes of buffers to lend.
     Buffers { file: Vec<u8>, sizes: Vec<u16> },
-    /// `R`: a set made by hand, pasts and scans, and names.
+    /// `R`: a set made by hand, a state and scans as in `S`, and names.
     Raw {
         set: Vec<u8>,
-        words: Vec<Words>,
+        list: Option<List>,
         names: Vec<Vec<u8>>,
     },
 }
@@ -36,12 +52,12 @@ pub enum Case {
 pub fn case_bytes(case: &Case) -> Option<Vec<u8>> {
     let (kind, records) = match case {
         Case::File { file, scans } => (b'F', vec![file.clone(), words_bytes(scans)?]),
-        Case::State { file, words } => (b'S', vec![file.clone(), words_bytes(words)?]),
+        Case::State { file, list } => (b'S', vec![file.clone(), list_bytes(list)?]),
         Case::Names { file, names } => (b'N', vec![file.clone(), names_bytes(names)?]),
         Case::Buffers { file, sizes } => (b'B', vec![file.clone(), sizes_bytes(sizes)?]),
-        Case::Raw { set, words, names } => {
+        Case::Raw { set, list, names } => {
             let set = (set.len() == SET_BYTES).then(|| set.clone())?;
-            (b'R', vec![set, words_bytes(words)?, names_bytes(names)?])
+            (b'R', vec![set, list_bytes(list)?, names_bytes(names)?])
         }
     };
     let mut bytes = vec![kind];
@@ -52,13 +68,24 @@ pub fn case_bytes(case: &Case) -> Option<Vec<u8>> {
     Some(bytes)
 }
 
-fn words_bytes(words: &[Words]) -> Option<Vec<u8>> {
+fn words_bytes(scans: &[Words]) -> Option<Vec<u8>> {
     let mut bytes = Vec::new();
-    for (long, short) in words {
-        bytes.extend(long.to_be_bytes());
-        bytes.extend(short.to_be_bytes());
+    for (sensor, request) in scans {
+        bytes.extend(sensor.to_be_bytes());
+        bytes.extend(request.to_be_bytes());
     }
-    (bytes.len() <= MOST_WORD_BYTES).then_some(bytes)
+    (bytes.len() <= MOST_LIST_BYTES).then_some(bytes)
+}
+
+fn list_bytes(list: &Option<List>) -> Option<Vec<u8>> {
+    let Some(List { first, scans }) = list else {
+        return Some(Vec::new());
+    };
+    let mut bytes = first.past_sensor.to_be_bytes().to_vec();
+    bytes.extend(first.past_output.to_be_bytes());
+    bytes.push(first.mark);
+    bytes.extend(words_bytes(scans)?);
+    (bytes.len() <= MOST_LIST_BYTES).then_some(bytes)
 }
 
 fn names_bytes(names: &[Vec<u8>]) -> Option<Vec<u8>> {
@@ -93,12 +120,12 @@ fn take_case(kind: u8, rest: &mut &[u8]) -> Option<Case> {
     let second = take_record(rest)?;
     match kind {
         b'F' => words_of(second).map(|scans| Case::File { file, scans }),
-        b'S' => words_of(second).map(|words| Case::State { file, words }),
+        b'S' => list_of(second).map(|list| Case::State { file, list }),
         b'N' => names_of(second).map(|names| Case::Names { file, names }),
         b'B' => sizes_of(second).map(|sizes| Case::Buffers { file, sizes }),
         b'R' if file.len() == SET_BYTES => Some(Case::Raw {
             set: file,
-            words: words_of(second)?,
+            list: list_of(second)?,
             names: names_of(take_record(rest)?)?,
         }),
         _ => None,
@@ -120,6 +147,23 @@ fn words_of(body: &[u8]) -> Option<Vec<Words>> {
         Some((u32::from_be_bytes(*long), u16::from_be_bytes(short)))
     });
     pairs.collect()
+}
+
+/// The list of a record that is empty or begins with a state.
+fn list_of(body: &[u8]) -> Option<Option<List>> {
+    if body.is_empty() {
+        return Some(None);
+    }
+    let (pasts, rest) = body.split_first_chunk::<6>()?;
+    let (&mark, scans) = rest.split_first()?;
+    let (past_sensor, past_output) = *words_of(pasts)?.first()?;
+    let first = Kept {
+        past_sensor,
+        past_output,
+        mark,
+    };
+    let scans = words_of(scans)?;
+    Some(Some(List { first, scans }))
 }
 
 fn names_of(body: &[u8]) -> Option<Vec<Vec<u8>>> {
@@ -148,7 +192,13 @@ mod tests {
     /// A case of each kind, with an empty record of each sort among them.
     fn one_of_each() -> Vec<Case> {
         let file = b"abc".to_vec();
-        let words = vec![(0x8000_0001, 0xFFFE), (0, 1)];
+        let scans = vec![(0x8000_0001, 0xFFFE), (0, 1)];
+        let first = Kept {
+            past_sensor: 0x8000_0001,
+            past_output: 0xFFFE,
+            mark: 0xFF,
+        };
+        let list = Some(List { first, scans });
         let names = vec![Vec::new(), vec![0], vec![b'x'; 255]];
         vec![
             Case::File {
@@ -157,7 +207,11 @@ mod tests {
             },
             Case::State {
                 file: file.clone(),
-                words: words.clone(),
+                list: None,
+            },
+            Case::State {
+                file: file.clone(),
+                list: list.clone(),
             },
             Case::Names {
                 file: file.clone(),
@@ -169,7 +223,7 @@ mod tests {
             },
             Case::Raw {
                 set: vec![7; SET_BYTES],
-                words,
+                list,
                 names,
             },
         ]
@@ -186,12 +240,24 @@ mod tests {
 
     #[test]
     fn the_bytes_of_a_case() {
-        let case = Case::State {
-            file: vec![9],
-            words: vec![(1, 2)],
+        let first = Kept {
+            past_sensor: 1,
+            past_output: 2,
+            mark: 3,
         };
-        let bytes = [b'S', 0, 1, 9, 0, 6, 0, 0, 0, 1, 0, 2];
-        assert_eq!(case_bytes(&case), Some(bytes.to_vec()));
+        let case = |scans: &[Words]| Case::State {
+            file: vec![9],
+            list: Some(List {
+                first,
+                scans: scans.to_vec(),
+            }),
+        };
+        let bytes = [b'S', 0, 1, 9, 0, 7, 0, 0, 0, 1, 0, 2, 3];
+        assert_eq!(case_bytes(&case(&[])), Some(bytes.to_vec()));
+        let mut bytes = bytes.to_vec();
+        bytes[5] = 13;
+        bytes.extend([0, 0, 0, 4, 0, 5]);
+        assert_eq!(case_bytes(&case(&[(4, 5)])), Some(bytes));
     }
 
     #[test]
@@ -202,6 +268,9 @@ mod tests {
             b"F\0\0\0",
             b"X\0\0\0\0",
             b"F\0\0\0\x05\0\0\0\0\0",
+            b"F\0\0\0\x07\0\0\0\0\0\0\0",
+            b"S\0\0\0\x06\0\0\0\0\0\0",
+            b"S\0\0\0\x0C\0\0\0\0\0\0\0\0\0\0\0\0",
             b"N\0\0\0\x02\x02a",
             b"B\0\0\0\x01\0",
             b"R\0\0\0\0\0\0",
@@ -219,6 +288,16 @@ mod tests {
         };
         assert!(case_bytes(&scans(682)).is_some());
         assert!(case_bytes(&scans(683)).is_none());
+        // 681 scans behind a state are 4,093 bytes.
+        let list = |count| Case::State {
+            file: file(),
+            list: Some(List {
+                first: Kept::default(),
+                scans: vec![(0, 0); count],
+            }),
+        };
+        assert_eq!(case_bytes(&list(681)).map(|b| b.len()), Some(5 + 4093));
+        assert!(case_bytes(&list(682)).is_none());
         let names = |length| Case::Names {
             file: file(),
             names: vec![vec![0; length]],

@@ -1,10 +1,12 @@
-//! Document 01's "Tried by hand", starred and unstarred cases.
+//! Document 01's "Tried by hand", starred and unstarred cases, and document 02's
+//! "No rising edge on power-up".
 
 use reference::damage::P;
 use reference::file::{load, Refusal};
 use reference::filter::holds;
 use reference::machine::{scan, start, ScanRefusal, Sent, State};
 use reference::program::line;
+use reference::records::{Kept, Words};
 use reference::set::{Constraint, Kind, Literal, Point, ReadPoint, Set};
 use reference::verdict::{judge, Verdict};
 
@@ -154,11 +156,107 @@ fn edge() -> Set {
     )
 }
 
+/// The answers to a list of scans from a start.
+fn list(set: &Set, scans: &[Words]) -> Vec<Result<Sent, u8>> {
+    let mut state = start(set).expect("the set is accepted");
+    let answer = |&(sensor, request): &Words| {
+        let before = state.clone();
+        let answer = scan(&mut state, sensor, request);
+        // A refused scan leaves the state, an accepted one sets the mark.
+        assert!(answer.is_ok() && state.accepted || answer.is_err() && state == before);
+        answer.map_err(ScanRefusal::number)
+    };
+    scans.iter().map(answer).collect()
+}
+
+/// A vector that is sent without a pass.
+fn at_once(vector: u32) -> Result<Sent, u8> {
+    Ok(Sent { vector, passes: 0 })
+}
+
 #[test]
 fn edge_of_a_sensor() {
-    let mut state = start(&edge()).expect("the set is accepted");
-    assert_eq!(scan(&mut state, 1, 1), sent(0, 0));
-    assert_eq!(scan(&mut state, 1, 1), sent(1, 0));
+    assert!(!start(&edge()).expect("the set is accepted").accepted);
+    assert_eq!(list(&edge(), &[(1, 1), (1, 1)]), [at_once(1), at_once(1)]);
+    // An edge that is one: off in the first scan, on in the second.
+    let scans = [(0, 1), (1, 1), (1, 1)];
+    assert_eq!(list(&edge(), &scans), [1, 0, 1].map(at_once));
+}
+
+#[test]
+fn refused_scans_are_not_the_first() {
+    let scans = [(1, 2), (2, 1), (1, 1), (0, 1), (1, 1), (1, 1)];
+    let answers = [
+        Err(32),
+        Err(31),
+        at_once(1),
+        at_once(1),
+        at_once(0),
+        at_once(1),
+    ];
+    assert_eq!(list(&edge(), &scans), answers);
+}
+
+#[test]
+fn edge_of_the_second_sensor() {
+    let set = set(
+        &[Kind::Sensor, Kind::Sensor, Kind::PastSensor(1)],
+        1,
+        &[&[read(1, false), read(2, true), out(0, false, 0)]],
+    );
+    let scans = [(2, 1), (1, 1), (2, 1), (3, 1)];
+    assert_eq!(list(&set, &scans), [1, 1, 0, 1].map(at_once));
+}
+
+#[test]
+fn edge_from_states_made_by_hand() {
+    for (past_sensor, mark, answer) in [
+        (0, 1, at_once(0)),
+        (0, 0, at_once(1)),
+        (1, 0, at_once(1)),
+        (1, 1, at_once(1)),
+        (2, 0, at_once(1)),
+        (4, 0, Err(30)),
+    ] {
+        let kept = Kept {
+            past_sensor,
+            past_output: 0,
+            mark,
+        };
+        let mut state = State::by_hand(&edge(), &kept);
+        let first = scan(&mut state, 1, 1).map_err(ScanRefusal::number);
+        assert_eq!(first, answer, "{kept:?}");
+        assert_eq!(state.accepted, mark == 1 || answer.is_ok());
+    }
+}
+
+#[test]
+fn scan_33_is_not_the_first() {
+    // At "s and past s" A is forced both ways; "t, not past t, B".
+    let kinds = [
+        Kind::Sensor,
+        Kind::PastSensor(0),
+        Kind::Sensor,
+        Kind::PastSensor(2),
+    ];
+    let set = set(
+        &kinds,
+        2,
+        &[
+            &[read(0, false), read(1, false), out(0, false, 0)],
+            &[read(0, false), read(1, false), out(0, true, 0)],
+            &[read(2, false), read(3, true), out(1, false, 0)],
+        ],
+    );
+    let mut state = State::fresh(&set);
+    let before = state.clone();
+    assert_eq!(scan(&mut state, 1, 2), Err(ScanRefusal::NeverSafe));
+    assert_eq!(state, before);
+    // The first: t reads as before too. Then s rises, and t falls and rises.
+    assert_eq!(scan(&mut state, 4, 2), sent(2, 0));
+    assert!(state.accepted);
+    assert_eq!(scan(&mut state, 1, 2), sent(2, 0));
+    assert_eq!(scan(&mut state, 4, 2), sent(0, 0));
 }
 
 #[test]
@@ -213,13 +311,15 @@ fn refused_words() {
         assert_eq!(refused, Err(number));
         assert_eq!(state, before);
     }
-    // The past of a refused scan is not read: the edge is still to come.
-    assert_eq!(scan(&mut state, 1, 1), sent(0, 0));
+    // The past of a refused scan is not read, and it is not the first one.
+    assert_eq!(scan(&mut state, 1, 1), sent(1, 0));
 }
 
 #[test]
 fn refused_scan_between_two() {
     let mut state = start(&edge()).expect("the set is accepted");
+    assert_eq!(scan(&mut state, 0, 1), sent(1, 0));
+    assert_eq!(scan(&mut state, 1, 2), Err(ScanRefusal::Request));
     assert_eq!(scan(&mut state, 1, 1), sent(0, 0));
     assert_eq!(scan(&mut state, 0, 2), Err(ScanRefusal::Request));
     assert_eq!(scan(&mut state, 1, 1), sent(1, 0));

@@ -112,7 +112,8 @@ fn lists_of_scans_keep_demand_3() {
         let Ok(mut state) = start(&set) else {
             continue;
         };
-        let mut past = (0, 0);
+        // What the last accepted scan sent and sensed, if there is one.
+        let mut past = None;
         for (sensor, request) in scans(&mut chance, &set, 25) {
             let answer = scan(&mut state, sensor, request);
             numbers.extend(answer.err().map(ScanRefusal::number));
@@ -131,15 +132,17 @@ fn lists_of_scans_keep_demand_3() {
             assert!(!untouched || sent.passes == 0);
             let first = word(&start_vector(&held, &asked));
             assert!(sent.passes > 0 || sent.vector == first);
-            past = (sent.vector, sensor);
+            past = Some((sent.vector, sensor));
         }
     }
     assert!(numbers.contains(&31) && numbers.contains(&32));
     assert!(!numbers.contains(&33));
 }
 
-/// The read word from the sensor word and the pasts, bit by bit.
-fn read_bits(set: &Set, sensor: u32, (sent, sensed): (u32, u32)) -> Vec<bool> {
+/// The read word from the sensor word and the pasts, bit by bit. Without a scan
+/// before, past sensors read as the sensors do now, and past outputs 0.
+fn read_bits(set: &Set, sensor: u32, past: Option<(u32, u32)>) -> Vec<bool> {
+    let (sent, sensed) = past.unwrap_or((0, sensor));
     let bit = |word: u32, number: usize| (word >> number) % 2 == 1;
     let mut reads = Vec::new();
     for (number, point) in set.reads.iter().enumerate() {

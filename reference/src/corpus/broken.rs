@@ -4,7 +4,7 @@
 
 use super::long::longest;
 use super::names::nearly;
-use super::states::pasts;
+use super::states::kept;
 use super::texts::wordy;
 use crate::chance::Chance;
 use crate::damage::P;
@@ -14,7 +14,7 @@ use crate::raw::{
     constraint_at, laid_out, output_at, put, read_at, CONSTRAINTS, NAME, NEGATED_OUTPUTS,
     NEGATED_READS, OUTPUTS, PLAIN_OUTPUTS, PLAIN_READS, RANKS, READS,
 };
-use crate::records::{Case, SET_BYTES};
+use crate::records::{Case, List, SET_BYTES};
 use crate::set::{Kind, Literal, Point, Set};
 
 const GOOD_EACH: usize = 6;
@@ -66,7 +66,7 @@ fn beyond(count: usize, places: usize) -> Vec<usize> {
     ends(places - count).iter().map(|k| count + k).collect()
 }
 
-/// Sets made by hand with names, pasts and scans.
+/// Sets made by hand with names, states and scans.
 pub fn cases(chance: &mut Chance) -> Vec<Case> {
     let mut cases = Vec::new();
     for base in good(chance) {
@@ -151,8 +151,8 @@ fn bases(chance: &mut Chance) -> Vec<(Base, usize)> {
 /// A case of some bytes, with names and scans for the set they come from.
 fn case(chance: &mut Chance, set: &Set, raw: Vec<u8>) -> Case {
     let (r, n) = (set.reads.len(), set.outputs.len());
-    let mut words = vec![pasts(chance, r, n)];
-    words.extend(scans(chance, set, 4));
+    let first = kept(chance, r, n);
+    let scans = scans(chance, set, 4);
     let mut names: Vec<Vec<u8>> = set.reads.iter().map(|p| p.name.clone()).collect();
     names.truncate(3);
     names.extend(set.outputs.iter().take(3).cloned());
@@ -161,7 +161,7 @@ fn case(chance: &mut Chance, set: &Set, raw: Vec<u8>) -> Case {
     names.push(Vec::new());
     Case::Raw {
         set: raw,
-        words,
+        list: Some(List { first, scans }),
         names,
     }
 }

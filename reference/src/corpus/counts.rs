@@ -1,18 +1,22 @@
 //! Counts of what a corpus holds, told from this implementation's answers to
 //! it, and what there must be.
 
+use super::marks::{sorts, Pairs};
 use super::texts::LONGEST;
 use crate::answer::answer;
 use crate::file::load;
 use crate::filter::{holds, pass, start_vector};
 use crate::machine::{scan, taken, ScanRefusal, State};
 use crate::raw::{form, well_formed, Form};
-use crate::records::{Case, Words};
+use crate::records::{Case, List, Words};
 use crate::set::Set;
 use std::collections::BTreeMap;
 
 /// How many there are of each sort.
 pub type Counts = BTreeMap<String, usize>;
+
+/// The most scans behind a state.
+pub const MOST_SCANS: usize = 681;
 
 /// What a corpus must have, and how many at least.
 const NEEDED: &[(&str, usize)] = &[
@@ -50,6 +54,29 @@ const NEEDED: &[(&str, usize)] = &[
     ("F longest files", 2),
     ("F walks of more than 63 passes", 30),
     ("F walks of 4095 passes", 1),
+    ("F SCANS that ends at mark 0", 10),
+    ("F SCANS that ends at mark 1", 1000),
+    ("F first sent, other if past sensors read 0", 60),
+    ("F first sent, other if past sensors read 1", 40),
+    ("F first sent, other if an index counted sensors alone", 10),
+    (
+        "F first sent, other if only the first past sensor read as now",
+        10,
+    ),
+    ("F first sent, other if past outputs read 1", 10),
+    ("F first sent behind 31, other if that set the mark", 10),
+    ("F first sent behind 31, other if that were the first", 10),
+    ("F first sent behind 32, other if that set the mark", 10),
+    ("F first sent behind 32, other if that were the first", 10),
+    ("F first sent, no rising edge, simple", 10),
+    ("F first sent, no rising edge, combined", 10),
+    ("F first sent, no falling edge, simple", 10),
+    ("F first sent, no falling edge, combined", 10),
+    ("F first sent, no edge of read point 0", 10),
+    ("F first sent, no edge of a later sensor", 10),
+    ("F first sent, no edge of a sensor behind a past point", 10),
+    ("F second sent, other if it read as the first", 10),
+    ("F mark 0, none sent", 10),
     ("S cases", 400),
     ("S LOAD 1", 1),
     ("S STATE sent", 1000),
@@ -62,6 +89,48 @@ const NEEDED: &[(&str, usize)] = &[
     ("S 33, f 2 to 11, first pass flips", 50),
     ("S 33, f 2 to 11, first pass flips nothing", 50),
     ("S 33, f 12, first pass flips", 5),
+    ("S STATE that ends at mark 0", 50),
+    ("S STATE that ends at mark 1", 500),
+    ("S states of mark 0", 300),
+    ("S states of mark 1", 300),
+    ("S states whose mark is another byte", 5),
+    ("S states of no words", 1),
+    ("S lists as long as can be", 1),
+    ("S first sent, other if past sensors read 0", 60),
+    ("S first sent, other if past sensors read 1", 40),
+    ("S first sent, other if an index counted sensors alone", 10),
+    (
+        "S first sent, other if only the first past sensor read as now",
+        10,
+    ),
+    ("S first sent, other if past outputs read 1", 10),
+    ("S first sent behind 31, other if that set the mark", 10),
+    ("S first sent behind 31, other if that were the first", 10),
+    ("S first sent behind 32, other if that set the mark", 10),
+    ("S first sent behind 32, other if that were the first", 10),
+    ("S first sent, no rising edge, simple", 10),
+    ("S first sent, no rising edge, combined", 10),
+    ("S first sent, no falling edge, simple", 10),
+    ("S first sent, no falling edge, combined", 10),
+    ("S first sent, no edge of read point 0", 10),
+    ("S first sent, no edge of a later sensor", 10),
+    ("S first sent, no edge of a sensor behind a past point", 10),
+    ("S second sent, other if it read as the first", 10),
+    ("S mark 0, none sent", 10),
+    (
+        "S first sent, other if past sensors read the state's word",
+        50,
+    ),
+    ("S first sent, other if past outputs read 0", 10),
+    ("S first sent behind 33, other if that set the mark", 10),
+    ("S first sent behind 33, other if that were the first", 10),
+    ("S mark 0, 30 by the past sensor word", 10),
+    ("S mark 0, 33", 50),
+    ("S mark 0, 33 that is sent if past sensors read 0", 10),
+    ("S mark 0, a past sensor word that is not read", 200),
+    ("S mark 1, sent other than at mark 0", 80),
+    ("pairs of states but for the mark", 150),
+    ("pairs whose answers differ", 80),
     ("N cases", 60),
     ("N LOAD 1", 1),
     ("N NAMES R", 100),
@@ -109,6 +178,16 @@ const NEEDED: &[(&str, usize)] = &[
     ("R STATE !31", 3),
     ("R STATE !32", 3),
     ("R STATE !33", 3),
+    ("R STATE that ends at mark 0", 100),
+    ("R STATE that ends at mark 1", 100),
+    ("R states of mark 0", 100),
+    ("R states of mark 1", 100),
+    ("R states whose mark is another byte", 5),
+    (
+        "R first sent, other if past sensors read the state's word",
+        2,
+    ),
+    ("R mark 1, sent other than at mark 0", 2),
 ];
 
 /// What a corpus must have and has not, or has too little of.
@@ -124,6 +203,7 @@ pub fn missing(counts: &Counts) -> Vec<&'static str> {
 /// The counts of a corpus.
 pub fn counts(cases: &[Case]) -> Counts {
     let mut counts = Counts::new();
+    let mut pairs = Pairs::default();
     for case in cases {
         let kind = kind(case);
         let answer = answer(case);
@@ -136,7 +216,11 @@ pub fn counts(cases: &[Case]) -> Counts {
         for sort in sorts_of_case(case, &answer) {
             add(&mut counts, format!("{kind} {sort}"));
         }
+        pairs.add(case, &answer);
     }
+    let (all, differing) = pairs.counts();
+    counts.insert(String::from("pairs of states but for the mark"), all);
+    counts.insert(String::from("pairs whose answers differ"), differing);
     counts
 }
 
@@ -168,14 +252,26 @@ fn sorts_of_line(line: &str) -> Vec<String> {
             .zip(&words[1..])
             .map(|(operation, item)| format!("SET {operation} {}", answered(item)))
             .collect(),
-        "FIND" | "NAMES" | "SCANS" | "STATE" | "WRITES" | "JUDGES" | "STARTS" | "LINES"
-        | "TEXTS" => words[1..]
-            .iter()
-            .take_while(|&&item| item != "=")
-            .map(|item| format!("{} {}", words[0], item_sort(words[0], item)))
-            .collect(),
+        "SCANS" | "STATE" => sorts_of_scans(&words),
+        "FIND" | "NAMES" | "WRITES" | "JUDGES" | "STARTS" | "LINES" | "TEXTS" => {
+            sorts_of_items(words[0], &words[1..])
+        }
         _ => Vec::new(),
     }
+}
+
+fn sorts_of_items(line: &str, items: &[&str]) -> Vec<String> {
+    let sort = |item: &&str| format!("{line} {}", item_sort(line, item));
+    items.iter().map(sort).collect()
+}
+
+/// What the items of a list of scans count as, and the mark at its end.
+fn sorts_of_scans(words: &[&str]) -> Vec<String> {
+    let end = words.iter().position(|&word| word == "=");
+    let mut sorts = sorts_of_items(words[0], &words[1..end.unwrap_or(words.len())]);
+    let mark = words[words.len() - 1];
+    sorts.push(format!("{} that ends at mark {mark}", words[0]));
+    sorts
 }
 
 /// What a text counts as by its length.
@@ -211,11 +307,13 @@ fn sorts_of_case(case: &Case, answer: &str) -> Vec<String> {
     match case {
         Case::File { file, scans } => {
             let sorts = sorts_of_file(file, scans, answer);
-            sorts.into_iter().map(String::from).collect()
+            let mut sorts: Vec<String> = sorts.into_iter().map(String::from).collect();
+            sorts.extend(sorts_from_start(file, scans, answer));
+            sorts
         }
-        Case::State { file, words } => sorts_of_33(load(file).ok(), words),
-        Case::Raw { set, words, .. } => {
-            let mut sorts = sorts_of_33(well_formed(set), words);
+        Case::State { file, list } => sorts_of_list(load(file).ok(), list),
+        Case::Raw { set, list, .. } => {
+            let mut sorts = sorts_of_list(well_formed(set), list);
             sorts.push(sort_of_form(&form(set)));
             sorts
         }
@@ -268,13 +366,37 @@ fn passes(answer: &str) -> Vec<u32> {
         .collect()
 }
 
+/// What the scans of an accepted file count as by the first that is sent.
+fn sorts_from_start(file: &[u8], scans: &[Words], answer: &str) -> Vec<String> {
+    match load(file) {
+        Ok(set) if answer.contains("SCANS") => sorts(&State::fresh(&set), scans),
+        _ => Vec::new(),
+    }
+}
+
+/// What a state made by hand and its scans count as.
+fn sorts_of_list(set: Option<Set>, list: &Option<List>) -> Vec<String> {
+    let Some(List { first, scans }) = list else {
+        return vec![String::from("states of no words")];
+    };
+    let mut sorts_of = vec![match first.mark {
+        mark @ (0 | 1) => format!("states of mark {mark}"),
+        _ => String::from("states whose mark is another byte"),
+    }];
+    if scans.len() == MOST_SCANS {
+        sorts_of.push(String::from("lists as long as can be"));
+    }
+    if let Some(set) = set {
+        let state = State::by_hand(&set, first);
+        sorts_of.extend(sorts(&state, scans));
+        sorts_of.extend(sorts_of_33(state, scans));
+    }
+    sorts_of
+}
+
 /// The scans from a hand-made state that are refused by 33, by what f is and
 /// by what the first pass does.
-fn sorts_of_33(set: Option<Set>, words: &[Words]) -> Vec<String> {
-    let (Some(set), [pasts, scans @ ..]) = (set, words) else {
-        return Vec::new();
-    };
-    let mut state = State::with_pasts(&set, *pasts);
+fn sorts_of_33(mut state: State, scans: &[Words]) -> Vec<String> {
     let mut sorts = Vec::new();
     for &(sensor, request) in scans {
         let before = state.clone();
@@ -313,7 +435,12 @@ mod tests {
         let sorts = |line: &str| sorts_of_line(line).join(", ");
         assert_eq!(sorts("JUDGE LOAD 1 5"), "JUDGE LOAD");
         assert_eq!(sorts("LOAD 12 39"), "LOAD 12");
-        assert_eq!(sorts("SCANS 0/1 !31 = 1 0"), "SCANS sent, SCANS !31");
+        assert_eq!(
+            sorts("SCANS 0/1 !31 = 1 0 1"),
+            "SCANS sent, SCANS !31, SCANS that ends at mark 1"
+        );
+        assert_eq!(sorts("STATE = 1 0 0"), "STATE that ends at mark 0");
+        assert_eq!(sorts("STARTS 0:7=2/0 21:3=0/0"), "STARTS 0, STARTS 21");
         assert_eq!(sorts("NAMES R0 O11 !41"), "NAMES R, NAMES O, NAMES !41");
         assert_eq!(sorts("JUDGES 0:7 23/1/2:3"), "JUDGES 0, JUDGES 23");
         assert_eq!(sorts("LINES 0:7 13:9"), "LINES 0, LINES put");

@@ -45,6 +45,7 @@ pub fn cases(chance: &mut Chance) -> Vec<Case> {
         cases: by_hand::cases(),
         ..Files::default()
     };
+    corpus.cases.extend(by_hand::power_up());
     corpus.add(chance, damage::P.to_vec());
     add_all_sizes(&mut corpus, chance);
     add_large(&mut corpus, chance);

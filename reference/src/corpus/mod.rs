@@ -3,9 +3,11 @@
 pub mod broken;
 pub mod counters;
 pub mod counts;
+pub mod edges;
 pub mod examples;
 pub mod files;
 pub mod long;
+pub mod marks;
 pub mod names;
 pub mod sizes;
 pub mod states;
@@ -28,5 +30,7 @@ pub fn corpus(seed: u64) -> Vec<Case> {
     cases.extend(names::cases(&mut part(5)));
     cases.extend(sizes::cases(&mut part(6)));
     cases.extend(broken::cases(&mut part(7)));
+    cases.extend(states::other_marks(&cases));
+    cases.extend(edges::cases(&mut part(8)));
     cases
 }
