@@ -13,7 +13,7 @@ use Rattle.machine.specs.Machine.{stateOk, sensorOk, requestOk, refused,
 use Rattle.scan.specs.Shape.{wellFormed}
 use Rattle.scan.specs.Walk.{walk}
 use Rattle.scan.proofs.ShapeLaws.{counts}
-use Rattle.machine.proofs.MachineLaws.{state-formed, scan-bad-state, scan-bad-sensor, scan-bad-request, scan-walks}
+use Rattle.machine.proofs.MachineLaws.{state-formed, scan-bad-state, scan-bad-sensor, scan-bad-request, scanWord, scan-walks}
 use borrow.Author.Needs.{needs}
 use Rattle.machine.proofs.machine.scan.Statement.{statement}
 use Rattle.machine.proofs.machine.scan.Tie as tie
@@ -46,8 +46,10 @@ walked c x e =
     let e2 = e3 .before .before in
     let e1 = e2 .before .before in
     let a = e1 .before .before .args in
-    ap (sending (a .state) (a .sensor))
-    (sym e ∙ c .walk-from .ensures ∙ ap (λ (w : ℕ). walk (a .state .set) w (a .request)) (r .read-word .ensures ∙ ap (λ (x : ℕ). readWord (a .state .set) (a .state .«past_output») x (a .sensor)) (b .sensor-before .ensures)))
+    let read : r .read-word .result ≡ readWord (a .state .set) (a .state .«past_output») (b .sensor-before .result) (a .sensor) = r .read-word .ensures in
+    let word : r .read-word .result ≡ scanWord (a .state) (a .sensor) (a .request) =
+    read ∙ ap (λ (y : ℕ). readWord (a .state .set) (a .state .«past_output») y (a .sensor)) (b .sensor-before .ensures) in
+    ap (sending (a .state) (a .sensor)) (sym e ∙ c .walk-from .ensures ∙ ap (λ (w : ℕ). walk (a .state .set) w (a .request)) word)
     ∙ sym (scan-walks (a .state) (a .sensor) (a .request) (state-ok e1) (sensor-ok e2) (request-ok e3))
 
 is-state-ok-requires : tie.Need-is-state-ok-requires
@@ -121,7 +123,9 @@ returns-4 c = walked (c .before .before .before) _ (c .before .walked .given .1)
 
 returns-5 : tie.Need-returns-5
 returns-5 c =
-    refuses (c .refuse4 .result) _ _ (c .refuse4 .ensures) ∙ walked (c .before .before .before) Never (c .before .enum-told .given .1)
+    let w = c .before .before .before in
+    let a = w .before .before .before .before .before .before .before .before .before .args in
+    refuses (c .refuse4 .result) (a .state) _ (c .refuse4 .ensures) ∙ walked w Never (c .before .enum-told .given .1)
 
 pub scan-spec : {M : Type 1} → statement M
 scan-spec =
