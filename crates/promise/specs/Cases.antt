@@ -127,20 +127,20 @@ abbrev pub clashingLater : Set
 clashingLater = setOf (sensorS ∷ sensorT ∷ []) (nameA ∷ []) (product 2 0 0 1 [] ∷ product 2 0 1 0 [] ∷ [])
 
 -- p, the past of read point i
-abbrev pub pastOf : ℕ → ReadPoint
-pastOf i = readOf (PastSensor i) (0x70 ∷ [])
+abbrev pub pastP : ℕ → ReadPoint
+pastP i = readOf (PastSensor i) (0x70 ∷ [])
 
 -- read point 1 is the past of sensor 0; "not now, past, A"
 abbrev pub fallingEdge : Set
-fallingEdge = setOf (sensorS ∷ pastOf 0 ∷ []) (nameA ∷ []) (product 2 1 1 0 [] ∷ [])
+fallingEdge = setOf (sensorS ∷ pastP 0 ∷ []) (nameA ∷ []) (product 2 1 1 0 [] ∷ [])
 
 -- read point 2 is the past of sensor 1; "now, not past, A"
 abbrev pub secondEdge : Set
-secondEdge = setOf (sensorS ∷ sensorT ∷ pastOf 1 ∷ []) (nameA ∷ []) (product 2 4 1 0 [] ∷ [])
+secondEdge = setOf (sensorS ∷ sensorT ∷ pastP 1 ∷ []) (nameA ∷ []) (product 2 4 1 0 [] ∷ [])
 
 -- read point 2 is the past of sensor 0; "now, not past, A"; "t and A", "t and not A": with t on no vector is safe
 abbrev pub edgeAndClash : Set
-edgeAndClash = setOf (sensorS ∷ sensorT ∷ pastOf 0 ∷ []) (nameA ∷ []) (product 1 4 1 0 [] ∷ product 2 0 1 0 [] ∷ product 2 0 0 1 [] ∷ [])
+edgeAndClash = setOf (sensorS ∷ sensorT ∷ pastP 0 ∷ []) (nameA ∷ []) (product 1 4 1 0 [] ∷ product 2 0 1 0 [] ∷ product 2 0 0 1 [] ∷ [])
 
 -- A file with every kind of point, a field to a line: sensors a and b, q the past of output Y, p the past of sensor b; outputs X, Y, Z; "b and not p
 -- and X"; "q and Z"; "X and Y", where Y yields; "not a and Y".

@@ -5,11 +5,12 @@ use crate::file::load;
 use crate::making::scans;
 use crate::records::Case;
 
-const EXAMPLES: [&[u8]; 4] = [
+const EXAMPLES: [&[u8]; 5] = [
     include_bytes!("../../../examples/p.set"),
     include_bytes!("../../../examples/parcel-hall.set"),
     include_bytes!("../../../examples/sorting.set"),
     include_bytes!("../../../examples/sorting-mended.set"),
+    include_bytes!("../../../examples/pusher.set"),
 ];
 
 const SCANS_EACH: usize = 60;
@@ -46,6 +47,7 @@ mod tests {
             "JUDGE ACCEPT 3 4 5",
             "JUDGE NOVECTOR 176",
             "JUDGE ACCEPT 16 7 22",
+            "JUDGE ACCEPT 3 2 3",
         ];
         assert_eq!(lines, said);
     }
