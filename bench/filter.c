@@ -327,11 +327,11 @@ static bool is_sensor_word(const struct set *s, uint32_t sensor)
 // Until a scan is accepted a past sensor reads as the sensor does now.
 static uint32_t read_word(const struct state *st, uint32_t sensor)
 {
-    uint32_t before = st->accepted ? st->past_sensor : sensor;
+    uint32_t past_sensor = st->accepted ? st->past_sensor : sensor;
     uint32_t w = 0;
     for (size_t k = 0; k < st->set.r; k++) {
         const struct read_point *p = &st->set.reads[k];
-        uint32_t bit = p->kind == SENSOR ? sensor >> k : p->kind == PAST_OUTPUT ? (uint32_t)st->past_output >> p->index : before >> p->index;
+        uint32_t bit = p->kind == SENSOR ? sensor >> k : p->kind == PAST_OUTPUT ? (uint32_t)st->past_output >> p->index : past_sensor >> p->index;
         w |= (bit & 1) << k;
     }
     return w;

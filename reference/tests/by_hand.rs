@@ -252,7 +252,7 @@ fn scan_33_is_not_the_first() {
     let before = state.clone();
     assert_eq!(scan(&mut state, 1, 2), Err(ScanRefusal::NeverSafe));
     assert_eq!(state, before);
-    // The first: t reads as before too. Then s rises, and t falls and rises.
+    // The first: the past of t reads as t does now. Then s rises, and t falls and rises.
     assert_eq!(scan(&mut state, 4, 2), sent(2, 0));
     assert!(state.accepted);
     assert_eq!(scan(&mut state, 1, 2), sent(2, 0));

@@ -281,7 +281,8 @@ fn print_found(set: Set, name: &[u8]) {
     }
 }
 
-fn state_of(set: Set, past_output: u16, past_sensor: u32, accepted: bool) -> State {
+// A state made by hand.
+fn state_with(set: Set, past_output: u16, past_sensor: u32, accepted: bool) -> State {
     State {
         set,
         past_output,
@@ -321,7 +322,7 @@ fn print_found_p(name: &[u8]) {
 // One scan of P, with a state that says that a scan was accepted.
 fn print_scan_p(past_output: u16, past_sensor: u32, sensor: u32, request: u16) {
     print_scan(
-        state_of(set_p(), past_output, past_sensor, true),
+        state_with(set_p(), past_output, past_sensor, true),
         sensor,
         request,
     );
@@ -330,7 +331,7 @@ fn print_scan_p(past_output: u16, past_sensor: u32, sensor: u32, request: u16) {
 // One scan of the edge set.
 fn print_scan_edge(past_sensor: u32, accepted: bool, sensor: u32, request: u16) {
     print_scan(
-        state_of(set_edge(), 0, past_sensor, accepted),
+        state_with(set_edge(), 0, past_sensor, accepted),
         sensor,
         request,
     );
@@ -383,13 +384,13 @@ fn print_scans() {
     io::write_all(1, b"scan:");
     print_scan_p(4, 0, 2, 4);
     print_scan_p(3, 2, 2, 4);
-    print_scan(state_of(stray_constraint(), 0, 0, true), 0, 0);
+    print_scan(state_with(stray_constraint(), 0, 0, true), 0, 0);
     print_scan_p(3, 1, 2, 4);
     print_scan_p(3, 1, 0, 4);
     print_scan_p(3, 1, 1, 3);
-    print_scan(state_of(set_clashing(), 1, 0, true), 1, 0);
-    print_scan(state_of(set_clashing(), 1, 0, false), 1, 0);
-    print_scan(state_of(set_clashing(), 1, 1, true), 0, 1);
+    print_scan(state_with(set_clashing(), 1, 0, true), 1, 0);
+    print_scan(state_with(set_clashing(), 1, 0, false), 1, 0);
+    print_scan(state_with(set_clashing(), 1, 1, true), 0, 1);
     io::write_all(1, b"\n");
 }
 

@@ -11,12 +11,12 @@ pub fn print_behind(mark: u8, n: usize) {
     print(n);
 }
 
-// A state's mark behind one byte: 1 where a scan was accepted since the start, else 0.
-pub fn print_accepted(mark: u8, accepted: bool) {
+// A state's own mark behind one byte: 1 where a scan was accepted since the start, else 0.
+pub fn print_accepted(lead: u8, accepted: bool) {
     if accepted {
-        print_behind(mark, 1);
+        print_behind(lead, 1);
     } else {
-        print_behind(mark, 0);
+        print_behind(lead, 0);
     }
 }
 

@@ -20,8 +20,8 @@ fn scan_one(state: State, sensor: u32, request: u16) -> State {
     scanned.state
 }
 
-// What a state has beside its set.
-fn print_pasts(state: State) {
+// What a state keeps beside its set: the pasts and the mark.
+fn print_kept(state: State) {
     io::write_all(1, b" =");
     print_behind(b' ', state.past_sensor as usize);
     print_behind(b' ', state.past_output as usize);
@@ -38,7 +38,7 @@ pub fn print_list(start: State, calls: &[u8]) {
         state = scan_one(state, four_of(call), two_of(behind(call, 4)));
         i = i + PAIR;
     }
-    print_pasts(state);
+    print_kept(state);
 }
 
 // The state of the set with the pasts and the mark at the front of a words record.

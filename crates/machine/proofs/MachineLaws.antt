@@ -98,6 +98,10 @@ module _ (s : Set) (ok : wellFormed s ≡ true) (w request : ℕ) (fits : reques
 
 -- ---- a scan, by its tests
 
+-- an answer sends one vector
+pub same-vector : (a : ScanAnswer) (v k u j : ℕ) → a ≡ Sent v k → a ≡ Sent u j → v ≡ u
+same-vector a v k u j e f = cc
+
 -- an answer whose number is not 0 is none that sends
 unsent : (a : ScanAnswer) → eqb (getD (scanTold a) 0 0) 0 ≡ false → (v k : ℕ) → a ≢ Sent v k
 unsent a n v k e = clash (ap (λ (x : ScanAnswer). eqb (getD (scanTold x) 0 0) 0) e) n
@@ -201,16 +205,13 @@ module _ (st : State) (present request : ℕ) where
         fits : request < 2 ^ st .set .n
         fits = request-lt (st .set) request r
 
-        vector-of : (a : ScanAnswer) (v k u j : ℕ) → a ≡ Sent v k → a ≡ Sent u j → u ≡ v
-        vector-of a v k u j e f = cc
-
         never : (a : ScanAnswer) (v k : ℕ) → a ≡ Sent v k → a ≡ Unsafe → ⊥
         never a v k e f = let z : _≡_ {A = ℕ} 0 1 = cc in omega arith
 
         there : (k : ℕ) → scanOf st present request .answer ≡ Sent request k → Dec (Reaches (st .set) scanWord request) → safe (st .set) scanWord request ≡ true
         there k e (yes t) =
             due-untouched (st .set) ok scanWord request fits t .0
-            (vector-of (scanOf st present request .answer) request k _ _ e (ap (λ (x : Scanned). x .answer) (scan-sends t)))
+            (sym (same-vector (scanOf st present request .answer) request k _ _ e (ap (λ (x : Scanned). x .answer) (scan-sends t))))
         there k e (no n) = absurd (never (scanOf st present request .answer) request k e (ap (λ (x : Scanned). x .answer) (scan-unsafe n)))
 
         back : safe (st .set) scanWord request ≡ true → (k : ℕ) × (scanOf st present request .answer ≡ Sent request k)

@@ -30,12 +30,12 @@ module _ (s t : Set) (a : AlikeButLone s t) (w : ℕ) where
 
 module _ (s t : Set) (a : AlikeButLone s t) (formed : wellFormed s ≡ wellFormed t) (output sensor : ℕ) (accepted : Bool) (present request : ℕ) where
   -- the past sensor word that the scan reads
-  before : ℕ
-  before = sensorBefore accepted sensor present
+  past : ℕ
+  past = sensorBefore accepted sensor present
 
-  read-alike : readWord s output before present ≡ readWord t output before present
+  read-alike : readWord s output past present ≡ readWord t output past present
   unfolding readWord readingAt
-  read-alike = λ i. word (a .r-same i) (fun-ext (λ k. ap (reading output before present k) (a .kinds k)) i)
+  read-alike = λ i. word (a .r-same i) (fun-ext (λ k. ap (reading output past present k) (a .kinds k)) i)
 
   sensor-alike : sensorOk s present ≡ sensorOk t present
   unfolding sensorOk isPast
@@ -50,9 +50,9 @@ module _ (s t : Set) (a : AlikeButLone s t) (formed : wellFormed s ≡ wellForme
   answerBy p q r x = cond (not p) BadState (cond (not q) BadSensor (cond (not r) BadRequest (walked x)))
 
   by-tests : (u : Set) → scanOf (stateOf u output sensor accepted) present request .answer
-      ≡ answerBy (stateOk (stateOf u output sensor accepted)) (sensorOk u present) (requestOk u request) (walk u (readWord u output before present) request)
-  unfolding scanOf answerBy walked before
-  by-tests u = go (stateOk (stateOf u output sensor accepted)) (sensorOk u present) (requestOk u request) (walk u (readWord u output before present) request)
+      ≡ answerBy (stateOk (stateOf u output sensor accepted)) (sensorOk u present) (requestOk u request) (walk u (readWord u output past present) request)
+  unfolding scanOf answerBy walked past
+  by-tests u = go (stateOk (stateOf u output sensor accepted)) (sensorOk u present) (requestOk u request) (walk u (readWord u output past present) request)
     where
       go : (p q r : Bool) (x : Walk)
           → cond (not p) (refused (stateOf u output sensor accepted) BadState)
@@ -70,5 +70,5 @@ module _ (s t : Set) (a : AlikeButLone s t) (formed : wellFormed s ≡ wellForme
   scan-alike =
       by-tests s
       ∙ (λ i. answerBy (formed i && (lib.Dec.ltb output (2 ^ a .n-same i) && (lib.Dec.ltb sensor (2 ^ a .r-same i) && true))) (sensor-alike i)
-      (lib.Dec.ltb request (2 ^ a .n-same i)) ((walk-alike s t a (readWord s output before present) request ∙ ap (λ (w : ℕ). walk t w request) read-alike) i))
+      (lib.Dec.ltb request (2 ^ a .n-same i)) ((walk-alike s t a (readWord s output past present) request ∙ ap (λ (w : ℕ). walk t w request) read-alike) i))
       ∙ sym (by-tests t)

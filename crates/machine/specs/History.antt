@@ -36,11 +36,11 @@ unfoldable pub pastSensor : Set → List Call → ℕ
 pastSensor s [] = 0
 pastSensor s (b ∷ before) = cond (allowed s b) (b .sensor) (pastSensor s before)
 
--- the past sensor word that a call reads: its own sensor word until a call is allowed
+-- the past sensor word that a call reads: its own sensor word where no call before it is allowed, else the one that it finds
 unfoldable pub sensorRead : Set → List Call → Call → ℕ
 sensorRead s before c = sensorBefore (anyAllowed s before) (pastSensor s before) (c .sensor)
 
--- the past output word that it finds: the vector due in that call
+-- the past output word that a call finds: the vector due in the last one before it that is allowed; a start's, 0, where there is none
 unfoldable pub pastOutput : Set → List Call → ℕ
 pastOutput s [] = 0
 pastOutput s (b ∷ before) =

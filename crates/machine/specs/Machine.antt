@@ -47,8 +47,8 @@ sending st present Never = refused st Unsafe
 unfoldable pub scanOf : State → ℕ → ℕ → Scanned
 scanOf st present request =
     let s = st .set in
-    let before = sensorBefore (st .accepted) (st .«past_sensor») present in
-    let go = sending st present (walk s (readWord s (st .«past_output») before present) request) in
+    let past = sensorBefore (st .accepted) (st .«past_sensor») present in
+    let go = sending st present (walk s (readWord s (st .«past_output») past present) request) in
     cond (not (stateOk st)) (refused st BadState)
     (cond (not (sensorOk s present)) (refused st BadSensor)
     (cond (not (requestOk s request)) (refused st BadRequest) go))

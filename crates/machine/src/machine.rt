@@ -105,8 +105,8 @@ pub fn scan(state: State, sensor: u32, request: u16) -> Scanned
     if !words::fits16(request, n) {
         return refuse(state, ScanAnswer::BadRequest);
     }
-    let before = sensor_before(state.accepted, state.past_sensor, sensor);
-    let w = read_word(state.set, state.past_output, before, sensor);
+    let past = sensor_before(state.accepted, state.past_sensor, sensor);
+    let w = read_word(state.set, state.past_output, past, sensor);
     let walked = walk_from(state.set, w, request);
     match walked {
         Walk::Safe { vector, passes } => {

@@ -3,12 +3,12 @@
 use mathlib.Core.Path.{_≡_, refl, sym, ap, ap₂, subst, _∙_}
 use mathlib.Core.Bool.{true, false}
 use mathlib.Core.List.{List, [], _∷_}
-use mathlib.Core.Logic.{_⊎_, inl, inr, ⊎-elim, _↔_, _≢_}
+use mathlib.Core.Logic.{_⊎_, inl, inr, ⊎-elim, _↔_}
 use Prim.Native.Nat.{ℕ, _^_, _<_}
 use native.Mathlib.Nat.{lt-trans}
 use lib.Dec.{ltb}
 use borrow.Author.Tests.{ltb-true, lt-ltb}
-use Rattle.words.proofs.BoolLaws.{by-test, clash, and-true}
+use Rattle.words.proofs.BoolLaws.{by-test, and-true}
 use Rattle.scan.specs.declared.set.Kind.{Kind}
 use Rattle.scan.specs.declared.set.Kind.the-variants.{Sensor, PastSensor}
 use Rattle.scan.specs.declared.set.Constraint.{Constraint}
@@ -22,18 +22,16 @@ use Rattle.machine.specs.declared.machine.Scanned.{Scanned}
 use Rattle.scan.specs.Set.{kind, readPoint}
 use Rattle.scan.specs.Shape.{wellFormed, kindOk, isSensor}
 use Rattle.scan.specs.Walk.{walk}
-use Rattle.scan.proofs.ShapeLaws.{points-formed, read-formed}
+use Rattle.scan.proofs.ShapeLaws.{is-sensor, points-formed, read-formed}
 use Rattle.machine.specs.Past.{readWord}
 use Rattle.machine.specs.Machine.{stateOk, sensorOk, requestOk, sending, scanOf}
 use Rattle.machine.specs.Told.{scanTold}
 use Rattle.machine.specs.History.{Call, readAfter, run, runState}
-use Rattle.machine.proofs.MachineLaws.{scan-bad-state, scan-bad-sensor, scan-bad-request, scan-walks, Ended, stopped, sent, scan-ended}
+use Rattle.machine.proofs.MachineLaws.{scan-bad-state, scan-bad-sensor, scan-bad-request, scan-walks, same-vector, Ended, stopped, sent, scan-ended}
 use Rattle.promise.specs.Terms.{Bit, ReadsTrue, BitRead, stateWith}
 use Rattle.promise.specs.Allowed.{wordOf}
-use Rattle.promise.specs.Scans.{LastAllowed, NoneAllowed}
-use Rattle.promise.specs.PowerUp.{PastOf, PastsRead, AsksEdge, NoEdge, IsSent, SomeSent, PowerUp}
+use Rattle.promise.specs.PowerUp.{PastOf, PastSensorsRead, AsksEdge, NoEdge, IsSent, SomeSent, PowerUp}
 use Rattle.promise.proofs.Numbers.{apart}
-use Rattle.promise.proofs.ScanRefusals.{is-sensor}
 use Rattle.promise.proofs.ReadMeanings.{reads-mean, reads-of-list}
 
 -- ---- edges
@@ -51,21 +49,21 @@ module _ (s : Set) (w output sensor present : ℕ) (reads : (k : ℕ) → k < s 
   of-kind : (x : Kind) (k : ℕ) → k < s .r → kind s k ≡ x → Bit k w ↔ BitRead x output sensor present k
   of-kind x k h e = subst (λ (y : Kind). Bit k w ↔ BitRead y output sensor present k) e (reads k h)
 
-  pasts-read : PastsRead s w sensor
+  pasts-read : PastSensorsRead s w sensor
   pasts-read k i p = of-kind (PastSensor i) k (p .0) (p .1)
 
-no-edge : (s : Set) → wellFormed s ≡ true → (w output present : ℕ) → ((k : ℕ) → k < s .r → Bit k w ↔ BitRead (kind s k) output present present k) → NoEdge s w present
-no-edge s ok w output present reads = record { now = now; none = none }
+no-edge : (s : Set) (w output present : ℕ) → ((k : ℕ) → k < s .r → Bit k w ↔ BitRead (kind s k) output present present k) → NoEdge s w present
+no-edge s w output present reads = record { now = now; none = none }
   where
-    now : PastsRead s w present
+    now : PastSensorsRead s w present
     now = pasts-read s w output present present reads
 
-    own : (k i : ℕ) → PastOf s k i → Bit i w ↔ Bit i present
-    own k i p = let q = past-of-sensor s ok k i p in of-kind s w output present present reads Sensor i (q .0) (q .1)
+    own : wellFormed s ≡ true → (k i : ℕ) → PastOf s k i → Bit i w ↔ Bit i present
+    own ok k i p = let q = past-of-sensor s ok k i p in of-kind s w output present present reads Sensor i (q .0) (q .1)
 
-    none : (c : Constraint) → AsksEdge s c → ¬ ReadsTrue c w
-    none c (k, i, p, inl e) t = t .1 k (e .1) (now k i p .1 (own k i p .0 (t .0 i (e .0))))
-    none c (k, i, p, inr e) t = t .1 i (e .0) (own k i p .1 (now k i p .0 (t .0 k (e .1))))
+    none : wellFormed s ≡ true → (c : Constraint) → AsksEdge s c → ¬ ReadsTrue c w
+    none ok c (k, i, p, inl e) t = t .1 k (e .1) (now k i p .1 (own ok k i p .0 (t .0 i (e .0))))
+    none ok c (k, i, p, inr e) t = t .1 i (e .0) (own ok k i p .1 (now k i p .0 (t .0 k (e .1))))
 
 -- ---- the mark
 
@@ -146,9 +144,6 @@ module _ (s : Set) (output x y : ℕ) (hx : x < 2 ^ s .r) (hy : y < 2 ^ s .r) wh
         ⊎ ((scanOf sx present request .state ≡ sx) × (scanOf sy present request .state ≡ sy))
     same-end = go (scan-ended sx present request) (scan-ended sy present request)
       where
-        vector-of : (a b : ScanAnswer) (v k u j : ℕ) → a ≡ b → a ≡ Sent v k → b ≡ Sent u j → v ≡ u
-        vector-of a b v k u j e f g = cc
-
         go : Ended sx present request (scanOf sx present request) → Ended sy present request (scanOf sy present request)
             → (scanOf sx present request .state ≡ scanOf sy present request .state)
             ⊎ ((scanOf sx present request .state ≡ sx) × (scanOf sy present request .state ≡ sy))
@@ -156,7 +151,7 @@ module _ (s : Set) (output x y : ℕ) (hx : x < 2 ^ s .r) (hy : y < 2 ^ s .r) wh
         go (stopped n e) (sent v k a f) = absurd (n v k (same-answer ∙ a))
         go (sent v k a e) (stopped m f) = absurd (m v k (sym same-answer ∙ a))
         go (sent v k a e) (sent u j b f) =
-            inl (e ∙ ap (λ (z : ℕ). stateWith s z present true) (vector-of _ _ v k u j same-answer a b) ∙ sym f)
+            inl (e ∙ ap (λ (z : ℕ). stateWith s z present true) (same-vector (scanOf sx present request .answer) v k u j a (same-answer ∙ b)) ∙ sym f)
 
   unread : (calls : List Call) → run sx calls ≡ run sy calls
   unfolding run
@@ -175,17 +170,17 @@ module _ (s : Set) (output x y : ℕ) (hx : x < 2 ^ s .r) (hy : y < 2 ^ s .r) wh
 pub power-up : PowerUp
 power-up = record {
   mark = mark;
-  state-no-edge = λ st present ok e. no-edge (st .set) ok (wordOf st present) (st .«past_output») present (reads-mean st present .first e);
+  state-no-edge = λ st present e. no-edge (st .set) (wordOf st present) (st .«past_output») present (reads-mean st present .first e);
   unread = unread;
   state-next = next;
-  list-no-edge = λ s ok before n c. no-edge s ok (readAfter s before c) 0 (c .sensor) (reads-of-list s before c .none n);
+  list-no-edge = λ s before n c. no-edge s (readAfter s before c) 0 (c .sensor) (reads-of-list s before c .none n);
   list-next = λ s before b earlier l c. pasts-read s (readAfter s before c) _ (b .sensor) (c .sensor) (reads-of-list s before c .last b earlier l);
 }
   where
     next : (st : State) (present request : ℕ) → IsSent (scanOf st present request .answer) → (later : ℕ)
-        → PastsRead (st .set) (wordOf (scanOf st present request .state) later) present
+        → PastSensorsRead (st .set) (wordOf (scanOf st present request .state) later) present
     next st present request t later =
         let e = sent-state st present request t in
         let behind = stateWith (st .set) (e .0) present true in
-        subst (λ (z : State). PastsRead (st .set) (wordOf z later) present) (sym (e .1))
+        subst (λ (z : State). PastSensorsRead (st .set) (wordOf z later) present) (sym (e .1))
         (pasts-read (st .set) (wordOf behind later) (e .0) present later (reads-mean behind later .later refl))

@@ -52,11 +52,11 @@ none-above s output sensor present k h =
 
 pub reads-mean : (st : State) (present : ℕ) → ReadsMean st present
 reads-mean st present =
-    let before : Bool → ℕ = λ accepted. sensorBefore accepted (st .«past_sensor») present in
+    let past : Bool → ℕ = λ accepted. sensorBefore accepted (st .«past_sensor») present in
     record {
-      later = λ e. read-with (st .set) (st .«past_output») (before (st .accepted)) present refl (ap before e);
-      first = λ e. read-with (st .set) (st .«past_output») (before (st .accepted)) present refl (ap before e);
-      above = none-above (st .set) (st .«past_output») (before (st .accepted)) present;
+      later = λ e. read-with (st .set) (st .«past_output») (past (st .accepted)) present refl (ap past e);
+      first = λ e. read-with (st .set) (st .«past_output») (past (st .accepted)) present refl (ap past e);
+      above = none-above (st .set) (st .«past_output») (past (st .accepted)) present;
     }
 
 -- ---- in a list

@@ -6,9 +6,7 @@ use mathlib.Core.List.{List, [], _∷_}
 use mathlib.Core.Logic.{_↔_}
 use Prim.Native.Nat.{ℕ}
 use Rattle.words.proofs.BitLaws.{bit-below}
-use Rattle.words.proofs.BoolLaws.{by-test, clash}
-use Rattle.scan.specs.declared.set.Kind.{Kind}
-use Rattle.scan.specs.declared.set.Kind.the-variants.{Sensor, PastOutput, PastSensor}
+use Rattle.words.proofs.BoolLaws.{by-test}
 use Rattle.scan.specs.declared.set.Set.{Set}
 use Rattle.scan.specs.declared.set.State.{State}
 use Rattle.machine.specs.declared.machine.Scanned.{Scanned}
@@ -17,6 +15,7 @@ use Rattle.scan.specs.Shape.{isSensor}
 use Rattle.scan.specs.Walk.{Reaches, vectorDue, passesDue}
 use Rattle.machine.specs.Machine.{stateOk, sensorOk, requestOk, scanOf}
 use Rattle.machine.specs.Told.{scanTold}
+use Rattle.scan.proofs.ShapeLaws.{is-sensor}
 use Rattle.machine.proofs.PastLaws.{sensor-lt, sensor-bits, sensor-allowed}
 use Rattle.scan.proofs.WalkLaws.{reaches-or-never}
 use Rattle.machine.proofs.MachineLaws.{state-parts, state-passes, state-formed, request-lt, request-passes, scan-bad-state, scan-bad-sensor, scan-bad-request, scan-sends, scan-unsafe, refused-keeps-state}
@@ -30,11 +29,6 @@ use Rattle.promise.proofs.PassMeanings.{ends-iff}
 
 pub state-iff : (st : State) → (stateOk st ≡ true) ↔ StateAllowed st
 state-iff st = (state-parts st, λ a. state-passes st (a .0) (a .1) (a .2))
-
-pub is-sensor : (x : Kind) → isSensor x ≡ true → x ≡ Sensor
-is-sensor Sensor e = refl
-is-sensor (PastOutput i) e = clash e refl
-is-sensor (PastSensor i) e = clash e refl
 
 pub sensor-iff : (s : Set) (present : ℕ) → (sensorOk s present ≡ true) ↔ SensorAllowed s present
 sensor-iff s present = (

@@ -29,7 +29,7 @@ SensorAllowed s present = (present < 2 ^ s .r) × ((k : ℕ) → k < s .r → Bi
 abbrev pub RequestAllowed : Set → ℕ → Type 0
 RequestAllowed s request = request < 2 ^ s .n
 
--- the read word of a scan: the sensor word, with past points filled from the state; what it is, bit by bit, `ReadsMean` says (specs/Meanings)
+-- the read word of a scan: the sensor word, with past points filled in; what they read, bit by bit, `ReadsMean` says (specs/Meanings)
 abbrev pub wordOf : State → ℕ → ℕ
 wordOf st present = readWord (st .set) (st .«past_output») (sensorBefore (st .accepted) (st .«past_sensor») present) present
 

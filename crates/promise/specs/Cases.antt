@@ -1,4 +1,4 @@
--- Worked cases: the starred ones of document 01's "Tried by hand", and those for what they leave open, some of them from the bytes of a file.
+-- Worked cases: the starred ones of document 01's "Tried by hand", the edge case as change request K2 has it, and those for what they leave open, some of them from the bytes of a file.
 -- Assumes nothing.
 use Prim.Native.Nat.{ℕ, _^_}
 use mathlib.Core.Path.{_≡_}
@@ -114,7 +114,8 @@ starred =
     ∷ scans equalRanks (call 0 3 ∷ []) (sent 0 1 ∷ [])
     -- "A and B" (A of lower rank), "A and C" (C of lower rank): request 7 sends 2, 1 pass
     ∷ scans twoPairs (call 0 7 ∷ []) (sent 2 1 ∷ [])
-    -- read point 1 is the past of sensor 0; "now, not past, A": scans of sensor 1, request 1 from a start send 1, then 1: there is no edge on power-up
+    -- read point 1 is the past of sensor 0; "now, not past, A": scans of sensor 1, request 1 from a start send 1, then 1
+    -- (change request K2: no edge on power-up; document 01 had 0, then 1)
     ∷ scans risingEdge (call 1 1 ∷ call 1 1 ∷ []) (sent 1 0 ∷ sent 1 0 ∷ [])
     ∷ []
 
@@ -134,11 +135,11 @@ pastP i = readOf (PastSensor i) (0x70 ∷ [])
 abbrev pub fallingEdge : Set
 fallingEdge = setOf (sensorS ∷ pastP 0 ∷ []) (nameA ∷ []) (product 2 1 1 0 [] ∷ [])
 
--- read point 2 is the past of sensor 1; "now, not past, A"
+-- sensors s and t, and read point 2 is the past of t; "t, not past, A"
 abbrev pub secondEdge : Set
 secondEdge = setOf (sensorS ∷ sensorT ∷ pastP 1 ∷ []) (nameA ∷ []) (product 2 4 1 0 [] ∷ [])
 
--- read point 2 is the past of sensor 0; "now, not past, A"; "t and A", "t and not A": with t on no vector is safe
+-- sensors s and t, and read point 2 is the past of s; "s, not past, A"; "t and A", "t and not A": with t on no vector is safe
 abbrev pub edgeAndClash : Set
 edgeAndClash = setOf (sensorS ∷ sensorT ∷ pastP 0 ∷ []) (nameA ∷ []) (product 1 4 1 0 [] ∷ product 2 0 1 0 [] ∷ product 2 0 0 1 [] ∷ [])
 
@@ -214,7 +215,7 @@ scanCases =
     ∷ scansOf (stateOf risingEdge 0 1 false) (call 1 1 ∷ []) (sent 1 0 ∷ [])
     ∷ scansOf (stateOf fallingEdge 0 1 false) (call 0 1 ∷ call 0 1 ∷ []) (sent 1 0 ∷ sent 1 0 ∷ [])
     ∷ scansOf (stateOf fallingEdge 0 1 true) (call 0 1 ∷ call 0 1 ∷ []) (sent 0 0 ∷ sent 1 0 ∷ [])
-    -- whose width still counts
+    -- and its width still counts: 2 has r bits, 4 has more
     ∷ scansOf (stateOf risingEdge 0 2 false) (call 1 1 ∷ []) (sent 1 0 ∷ [])
     ∷ scansOf (stateOf risingEdge 0 4 false) (call 1 1 ∷ []) (no 30 ∷ [])
     -- 33 is a refusal: it leaves the mark, and the scan behind it is the first that is accepted

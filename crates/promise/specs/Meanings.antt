@@ -1,5 +1,5 @@
--- What the demands speak of means what document 01 says: on the left a definition that the code meets, on the right document 01's sentence in
--- the terms of specs/Terms. `Meanings` is said of every well-formed set, `ReadsMean` of every state, `NameBytesMean` of any bytes.
+-- What the demands speak of means what document 01 says, and change request K2 of read words: on the left a definition that the code meets, on the
+-- right the paper's sentence in the terms of specs/Terms. `Meanings` is said of every well-formed set, `ReadsMean` of every state, `NameBytesMean` of any bytes.
 -- Assumes nothing.
 use mathlib.Core.Path.{_≡_}
 use mathlib.Core.Bool.{Bool, true, false}
@@ -98,13 +98,13 @@ pub record Meanings (s : Set) : Type 0 where
   pub names : NamesMean s
   pub places : PlacesMean s
 
--- ---- the read word of a state: the sensor word, with past points filled from the state
+-- ---- the read word of a scan: the sensor word, with past points filled from the state; past sensors from the sensor word itself until a scan is accepted
 
 pub record ReadsMean (st : State) (present : ℕ) : Type 0 where
-  -- where a scan was accepted since the start, a past sensor reads the past sensor word
+  -- where the state says that a scan was accepted since the start, a past sensor reads the past sensor word
   pub later : st .accepted ≡ true → (k : ℕ) → k < st .set .r
       → Bit k (wordOf st present) ↔ BitRead (kind (st .set) k) (st .«past_output») (st .«past_sensor») present k
-  -- where none was, it reads as the sensor does now
+  -- where it says that none was, a past sensor reads as the sensor does now
   pub first : st .accepted ≡ false → (k : ℕ) → k < st .set .r
       → Bit k (wordOf st present) ↔ BitRead (kind (st .set) k) (st .«past_output») present present k
   pub above : (k : ℕ) → st .set .r ≤ k → ¬ Bit k (wordOf st present)

@@ -3,8 +3,8 @@
 -- are free afterwards; `startOf` is the start, `scanOf` the scan, `findOf` finding. `loadTold`, `writeTold`, `verdictTold`, `scanTold` and
 -- `findTold` give document 01's number of an answer, 0 for one that is no refusal, with its values.
 -- What the demands say of these is said in document 01's own terms, in bits, bytes and numbers (specs/Terms, Allowed, Verdicts, Scans, Column); where
--- they name a definition that the code meets too (`after`, `vectorDue`, `passesDue`, `readAfter`), specs/Meanings and specs/Scans say what it is; and
--- specs/FileSays says what stands in a file.
+-- they name a definition that the code meets too (`after`, `vectorDue`, `passesDue`, `wordOf`, `readAfter`), specs/Meanings and specs/Scans say what it
+-- is; specs/PowerUp has change request K2; and specs/FileSays says what stands in a file.
 -- Every call ends: a function of Rattle that is proved returns.
 -- Assumes nothing.
 use mathlib.Core.Path.{_≡_}

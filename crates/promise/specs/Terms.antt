@@ -90,6 +90,6 @@ BitRead (PastSensor i) output sensor present k = Bit i sensor
 
 -- ---- a state
 
--- a set, a past output word and a past sensor word, and whether a scan was accepted since the start
+-- a set, a past output word and a past sensor word, and its mark: whether a scan was accepted since the start
 abbrev pub stateWith : Set → ℕ → ℕ → Bool → State
 stateWith s output sensor accepted = record { set = s; «past_output» = output; «past_sensor» = sensor; accepted = accepted }

@@ -12,12 +12,14 @@ use lib.Bits.{bitAnd, or-lt}
 use borrow.Author.Tests.{leb-true, ltb-true, eqb-true, lt-ltb, le-ltb, le-leb, lt-leb}
 use mathlib.Core.List.{List, [], _∷_}
 use Rattle.words.specs.Loop.{every, all}
-use Rattle.words.proofs.BoolLaws.{every-at, and-true, cond-true, cond-false, and-false, three}
+use Rattle.words.proofs.BoolLaws.{clash, every-at, and-true, cond-true, cond-false, and-false, three}
 use Rattle.words.proofs.LoopLaws.{all-at}
+use Rattle.scan.specs.declared.set.Kind.{Kind}
+use Rattle.scan.specs.declared.set.Kind.the-variants.{Sensor, PastOutput, PastSensor}
 use Rattle.scan.specs.declared.set.Constraint.{Constraint}
 use Rattle.scan.specs.declared.set.Set.{Set}
 use Rattle.scan.specs.Set.{mostReads, mostOutputs, mostPoints, mostConstraints, constraint, rank, outs, readPoint, outputPoint}
-use Rattle.scan.specs.Shape.{countTests, lengthTests, rankOk, constraintTests, constraintZero, constraintPlace, setTests, wellFormed, kindOk, readOk, readZero, readPlace, outputOk, outputPlace}
+use Rattle.scan.specs.Shape.{isSensor, countTests, lengthTests, rankOk, constraintTests, constraintZero, constraintPlace, setTests, wellFormed, kindOk, readOk, readZero, readPlace, outputOk, outputPlace}
 use Rattle.scan.specs.declared.set.ReadPoint.{ReadPoint}
 use Rattle.scan.specs.declared.set.OutputPoint.{OutputPoint}
 use Rattle.scan.specs.Names.{nameOk, nameZero, firstRead, firstOutput}
@@ -142,6 +144,12 @@ module _ (s : Set) where
   formed-counts e = counts-told (s .r) (s .n) (s .m) (every-at (setTests s) e 0)
 
 -- ---- a point
+
+-- what passes the test of a sensor is one
+pub is-sensor : (x : Kind) → isSensor x ≡ true → x ≡ Sensor
+is-sensor Sensor e = refl
+is-sensor (PastOutput i) e = clash e refl
+is-sensor (PastSensor i) e = clash e refl
 
 -- read point k: its kind and its name are right, and no earlier read point has its name
 pub record ReadFormed (reads : List ReadPoint) (n k : ℕ) : Type 0 where

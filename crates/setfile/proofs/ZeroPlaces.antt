@@ -1,6 +1,6 @@
 -- A point or constraint that passes the tests of a place beyond the counts is the one of zeros.
 -- Assumes nothing.
-use mathlib.Core.Path.{_≡_, refl, sym, _∙_}
+use mathlib.Core.Path.{_≡_, sym, _∙_}
 use mathlib.Core.Bool.{true}
 use mathlib.Core.List.{List, [], _∷_}
 use Prim.Native.Nat.{ℕ, _<_}
@@ -12,13 +12,12 @@ use borrow.Author.Tests.{eqb-true}
 use Rattle.words.specs.Loop.{all}
 use Rattle.words.proofs.BoolLaws.{every-at}
 use Rattle.words.proofs.LoopLaws.{all-at}
-use Rattle.scan.specs.declared.set.Kind.{Kind}
-use Rattle.scan.specs.declared.set.Kind.the-variants.{Sensor, PastOutput, PastSensor}
 use Rattle.scan.specs.declared.set.ReadPoint.{ReadPoint}
 use Rattle.scan.specs.declared.set.OutputPoint.{OutputPoint}
 use Rattle.scan.specs.declared.set.Constraint.{Constraint}
 use Rattle.scan.specs.Set.{mostOutputs, namePlaces, zeroName, zeroRead, zeroOutput, zeroConstraint}
 use Rattle.scan.specs.Names.{zeroAt, nameZero}
+use Rattle.scan.proofs.ShapeLaws.{is-sensor}
 use Rattle.scan.specs.Shape.{isSensor, readZero, rankZero, constraintZero}
 
 -- numbers that are all zero
@@ -33,16 +32,11 @@ name-blank name e =
     let t = every-at (eqb (length name) namePlaces ∷ all namePlaces (zeroAt name) ∷ []) e in
     zeros namePlaces name (eqb-true (length name) namePlaces (t 0)) (all-at namePlaces (zeroAt name) (t 1))
 
-sensor : (k : Kind) → isSensor k ≡ true → k ≡ Sensor
-sensor Sensor e = refl
-sensor (PastOutput j) e = let z : _≡_ {A = ℕ} 0 1 = cc in absurd (omega arith)
-sensor (PastSensor j) e = let z : _≡_ {A = ℕ} 0 1 = cc in absurd (omega arith)
-
 pub read-blank : (p : ReadPoint) → readZero p ≡ true → p ≡ zeroRead
 unfolding readZero
 read-blank p e =
     let t = every-at (isSensor (p .kind) ∷ nameZero (p .name) ∷ []) e in
-    let k = sensor (p .kind) (t 0) in
+    let k = is-sensor (p .kind) (t 0) in
     let n = name-blank (p .name) (t 1) in
     λ i. record { kind = k i; name = n i }
 

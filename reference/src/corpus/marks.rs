@@ -55,15 +55,12 @@ pub fn sorts(first: &State, scans: &[Words]) -> Vec<String> {
     let end = turns.iter().position(|turn| turn.answer.is_ok());
     let (refused, sent) = turns.split_at(end.unwrap_or(turns.len()));
     let mut sorts = Vec::new();
-    match sent {
-        _ if !first.accepted => {
-            sorts.extend(refused.iter().flat_map(sorts_of_refused));
-            sorts.extend(sorts_of_sent(refused, sent));
-        }
-        [turn, ..] if turn.other(|state| state.accepted = false) => {
-            sorts.push(String::from("mark 1, sent other than at mark 0"));
-        }
-        _ => {}
+    let other = |turn: &Turn| turn.other(|state| state.accepted = false);
+    if !first.accepted {
+        sorts.extend(refused.iter().flat_map(sorts_of_refused));
+        sorts.extend(sorts_of_sent(refused, sent));
+    } else if sent.first().is_some_and(other) {
+        sorts.push(String::from("mark 1, sent other than at mark 0"));
     }
     sorts.sort();
     sorts.dedup();
@@ -226,8 +223,8 @@ fn sorts_of_edge(set: &Set, constraint: &Constraint, rising: bool) -> Vec<String
             sorts.push(String::from(of_index(set, index)));
         }
     }
-    let first = sorts.into_iter();
-    first.map(|sort| format!("first sent, no {sort}")).collect()
+    let none = |sort| format!("first sent, no {sort}");
+    sorts.into_iter().map(none).collect()
 }
 
 /// Which sensor an edge is of.

@@ -41,8 +41,8 @@ loop-less c = search needs
 loop-again : tie.Need-loop-again Inv-loop μ-loop
 loop-again c = search needs
 
-print-pasts-requires : tie.Need-print-pasts-requires Inv-loop μ-loop
-print-pasts-requires c κs = search needs
+print-kept-requires : tie.Need-print-kept-requires Inv-loop μ-loop
+print-kept-requires c κs = search needs
 
 returns : tie.Need-returns Inv-loop μ-loop
 returns c = search needs
@@ -63,5 +63,5 @@ print-list-spec =
     add-i
     loop-less
     loop-again
-    print-pasts-requires
+    print-kept-requires
     returns)
