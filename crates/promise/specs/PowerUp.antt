@@ -45,7 +45,7 @@ pub record NoEdge (s : Set) (w present : ℕ) : Type 0 where
 abbrev pub IsSent : ScanAnswer → Type 0
 IsSent a = (v : ℕ) × (k : ℕ) × (scanTold a ≡ 0 ∷ v ∷ k ∷ [])
 
--- some answer of the list is one
+-- some answer of the list is no refusal
 abbrev pub SomeSent : List ScanAnswer → Type 0
 SomeSent [] = ⊥
 SomeSent (a ∷ answers) = IsSent a ⊎ SomeSent answers
