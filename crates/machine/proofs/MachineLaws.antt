@@ -2,7 +2,7 @@
 -- never is safe.
 -- Assumes nothing.
 use mathlib.Core.Path.{_≡_, refl, sym, ap, _∙_, subst}
-use mathlib.Core.Bool.{true, false}
+use mathlib.Core.Bool.{Bool, true, false, cond, not}
 use mathlib.Core.Logic.{_⊎_, inl, inr, _↔_, _≢_}
 use mathlib.Core.List.{[], _∷_}
 use Prim.Native.Nat.{ℕ, zero, _^_, _-_, _≤_, _<_}
@@ -98,6 +98,15 @@ module _ (s : Set) (ok : wellFormed s ≡ true) (w request : ℕ) (fits : reques
 
 -- ---- a scan, by its tests
 
+-- what a walk's end answers
+walkAnswer : Walk → ScanAnswer
+walkAnswer (Safe v made) = Sent v made
+walkAnswer Never = Unsafe
+
+-- the answer, from the tests 30 to 32 and the walk
+pub answerBy : Bool → Bool → Bool → Walk → ScanAnswer
+answerBy p q r x = cond (not p) BadState (cond (not q) BadSensor (cond (not r) BadRequest (walkAnswer x)))
+
 -- an answer sends one vector
 pub same-vector : (a : ScanAnswer) (v k u j : ℕ) → a ≡ Sent v k → a ≡ Sent u j → v ≡ u
 same-vector a v k u j e f = cc
@@ -127,6 +136,20 @@ module _ (st : State) (present request : ℕ) where
       → scanOf st present request ≡ sending st present (walk (st .set) scanWord request)
   unfolding scanOf
   scan-walks p q r = rw (p, q, r)
+
+  -- the answer knows of the state what the tests and the walk know
+  pub scan-answer : scanOf st present request .answer ≡ answerBy (stateOk st) (sensorOk (st .set) present) (requestOk (st .set) request) (walk (st .set) scanWord request)
+  unfolding scanOf answerBy walkAnswer
+  scan-answer = go (stateOk st) (sensorOk (st .set) present) (requestOk (st .set) request) (walk (st .set) scanWord request)
+    where
+      go : (p q r : Bool) (x : Walk)
+          → cond (not p) (refused st BadState) (cond (not q) (refused st BadSensor) (cond (not r) (refused st BadRequest) (sending st present x))) .answer
+          ≡ answerBy p q r x
+      go true true true (Safe v made) = refl
+      go true true true Never = refl
+      go true true false x = refl
+      go true false r x = refl
+      go false q r x = refl
 
   -- ---- how a scan ends
 

@@ -1,21 +1,19 @@
 -- No rising edge on power-up: what the mark says, what is read until a scan is accepted, and that a past sensor word is not read until then.
 -- Assumes nothing.
 use mathlib.Core.Path.{_≡_, refl, sym, ap, ap₂, subst, _∙_}
-use mathlib.Core.Bool.{true, false}
+use mathlib.Core.Bool.{Bool, true, false}
 use mathlib.Core.List.{List, [], _∷_}
 use mathlib.Core.Logic.{_⊎_, inl, inr, ⊎-elim, _↔_}
 use Prim.Native.Nat.{ℕ, _^_, _<_}
 use native.Mathlib.Nat.{lt-trans}
 use lib.Dec.{ltb}
 use borrow.Author.Tests.{ltb-true, lt-ltb}
-use Rattle.words.proofs.BoolLaws.{by-test, and-true}
+use Rattle.words.proofs.BoolLaws.{and-true}
 use Rattle.scan.specs.declared.set.Kind.{Kind}
 use Rattle.scan.specs.declared.set.Kind.the-variants.{Sensor, PastSensor}
 use Rattle.scan.specs.declared.set.Constraint.{Constraint}
 use Rattle.scan.specs.declared.set.Set.{Set}
 use Rattle.scan.specs.declared.set.State.{State}
-use Rattle.scan.specs.declared.walk.Walk.{Walk}
-use Rattle.scan.specs.declared.walk.Walk.the-variants.{Safe, Never}
 use Rattle.machine.specs.declared.machine.ScanAnswer.{ScanAnswer}
 use Rattle.machine.specs.declared.machine.ScanAnswer.the-variants.{Sent, BadState, BadSensor, BadRequest, Unsafe}
 use Rattle.machine.specs.declared.machine.Scanned.{Scanned}
@@ -24,10 +22,10 @@ use Rattle.scan.specs.Shape.{wellFormed, kindOk, isSensor}
 use Rattle.scan.specs.Walk.{walk}
 use Rattle.scan.proofs.ShapeLaws.{is-sensor, points-formed, read-formed}
 use Rattle.machine.specs.Past.{readWord}
-use Rattle.machine.specs.Machine.{stateOk, sensorOk, requestOk, sending, scanOf}
+use Rattle.machine.specs.Machine.{stateOk, sensorOk, requestOk, scanOf}
 use Rattle.machine.specs.Told.{scanTold}
 use Rattle.machine.specs.History.{Call, readAfter, run, runState}
-use Rattle.machine.proofs.MachineLaws.{scan-bad-state, scan-bad-sensor, scan-bad-request, scan-walks, same-vector, Ended, stopped, sent, scan-ended}
+use Rattle.machine.proofs.MachineLaws.{answerBy, scan-answer, same-vector, Ended, stopped, sent, scan-ended}
 use Rattle.promise.specs.Terms.{Bit, ReadsTrue, BitRead, stateWith}
 use Rattle.promise.specs.Allowed.{wordOf}
 use Rattle.promise.specs.PowerUp.{PastOf, PastSensorsRead, AsksEdge, NoEdge, IsSent, SomeSent, PowerUp}
@@ -67,6 +65,7 @@ no-edge s w output present reads = record { now = now; none = none }
 
 -- ---- the mark
 
+-- an answer that tells 0 sends
 sent-of : (a : ScanAnswer) (v k : ℕ) → scanTold a ≡ 0 ∷ v ∷ k ∷ [] → a ≡ Sent v k
 sent-of (Sent u j) v k e = let p : u ≡ v = cc in let q : j ≡ k = cc in ap₂ Sent p q
 sent-of BadState v k e = apart 30 0 [] _ refl e
@@ -83,6 +82,7 @@ sent-state st present request t = go (scan-ended st present request)
     go (stopped n e) = absurd (n (t .0) (t .1) (sent-of (scanOf st present request .answer) (t .0) (t .1) (t .2)))
     go (sent v k a e) = (v, e)
 
+-- the mark behind one scan
 mark-of-one : (st : State) (present request : ℕ) → (scanOf st present request .state .accepted ≡ true) ↔ ((st .accepted ≡ true) ⊎ IsSent (scanOf st present request .answer))
 mark-of-one st present request = go (scan-ended st present request)
   where
@@ -96,6 +96,7 @@ mark-of-one st present request = go (scan-ended st present request)
     )
     go (sent v k a e) = (λ m. inr (v, k, ap scanTold a), λ y. ap (λ (z : State). z .accepted) e)
 
+-- the mark behind a list
 mark : (st : State) (calls : List Call) → (runState st calls .accepted ≡ true) ↔ ((st .accepted ≡ true) ⊎ SomeSent (run st calls))
 unfolding run runState
 mark st [] = (inl, ⊎-elim (λ m. m) absurd)
@@ -120,24 +121,11 @@ module _ (s : Set) (output x y : ℕ) (hx : x < 2 ^ s .r) (hy : y < 2 ^ s .r) wh
   same-ok = rw (lt-ltb x (2 ^ s .r) hx, lt-ltb y (2 ^ s .r) hy) refl
 
   module _ (present request : ℕ) where
-    same-sent : (w : Walk) → sending sx present w .answer ≡ sending sy present w .answer
-    same-sent (Safe v made) = refl
-    same-sent Never = refl
-
-    -- two scans that end alike
-    ends : {a b : Scanned} → scanOf sx present request ≡ a → scanOf sy present request ≡ b → a .answer ≡ b .answer
-        → scanOf sx present request .answer ≡ scanOf sy present request .answer
-    ends e f g = ap (λ (z : Scanned). z .answer) e ∙ g ∙ sym (ap (λ (z : Scanned). z .answer) f)
-
     same-answer : scanOf sx present request .answer ≡ scanOf sy present request .answer
     same-answer =
-        by-test (stateOk sx)
-        (λ p. by-test (sensorOk s present)
-        (λ q. by-test (requestOk s request)
-        (λ r. ends (scan-walks sx present request p q r) (scan-walks sy present request (sym same-ok ∙ p) q r) (same-sent (walk s (readWord s output present present) request)))
-        (λ r. ends (scan-bad-request sx present request p q r) (scan-bad-request sy present request (sym same-ok ∙ p) q r) refl))
-        (λ q. ends (scan-bad-sensor sx present request p q) (scan-bad-sensor sy present request (sym same-ok ∙ p) q) refl))
-        (λ p. ends (scan-bad-state sx present request p) (scan-bad-state sy present request (sym same-ok ∙ p)) refl)
+        scan-answer sx present request
+        ∙ ap (λ (p : Bool). answerBy p (sensorOk s present) (requestOk s request) (walk s (readWord s output present present) request)) same-ok
+        ∙ sym (scan-answer sy present request)
 
     -- both are sent, and the states behind them are the same; or both are refused
     same-end : (scanOf sx present request .state ≡ scanOf sy present request .state)

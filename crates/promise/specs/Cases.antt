@@ -1,4 +1,5 @@
--- Worked cases: the starred ones of document 01's "Tried by hand", the edge case as change request K2 has it, and those for what they leave open, some of them from the bytes of a file.
+-- Worked cases: the starred ones of document 01's "Tried by hand", the edge case as change request K2 has it, and those for what they leave open, some of
+-- them from the bytes of a file.
 -- Assumes nothing.
 use Prim.Native.Nat.{ℕ, _^_}
 use mathlib.Core.Path.{_≡_}
