@@ -7,7 +7,7 @@
 #include <string.h>
 
 enum { MOST_READS = 16, MOST_OUTPUTS = 12, MOST_POINTS = 24, MOST_CONSTRAINTS = 64, NAME_PLACES = 8 };
-enum { MOST_FILE = 4096, MOST_VECTORS = 4096 };
+enum { MOST_FILE = 4096, MOST_VECTORS = 4096, PLACES = 251, LANES = 16 };
 enum kind { SENSOR, PAST_OUTPUT, PAST_SENSOR };
 
 struct read_point {
@@ -175,11 +175,35 @@ static bool is_well_formed(const struct set *s)
     return true;
 }
 
-// ---- a read word's table. The two loops over its entries have no branch, so that a compiler makes vector instructions of them.
+// ---- a read word's active constraints, and their table
 
-static bool are_reads_true(const struct constraint *c, uint32_t w)
+// The literals of the constraints, one array for each kind, and which constraints are simple.
+struct literals {
+    uint32_t read_plain[MOST_CONSTRAINTS], read_named[MOST_CONSTRAINTS];
+    uint16_t out_plain[MOST_CONSTRAINTS], out_negated[MOST_CONSTRAINTS];
+    uint64_t simple;
+};
+
+static void make_literals(const struct set *s, struct literals *l)
 {
-    return (w & c->read_plain) == c->read_plain && (w & c->read_negated) == 0;
+    l->simple = 0;
+    for (size_t i = 0; i < s->m; i++) {
+        const struct constraint *c = &s->constraints[i];
+        l->read_plain[i] = c->read_plain;
+        l->read_named[i] = c->read_plain | c->read_negated;
+        l->out_plain[i] = c->out_plain;
+        l->out_negated[i] = c->out_negated;
+        l->simple |= (uint64_t)(__builtin_popcount(c->out_plain | c->out_negated) == 1) << i;
+    }
+}
+
+// The constraints whose read literals are all true at the read word w, bit i telling of constraint i: nothing else sees a read word.
+static uint64_t active_at(const struct literals *l, size_t m, uint32_t w)
+{
+    uint64_t active = 0;
+    for (size_t i = 0; i < m; i++)
+        active |= (uint64_t)((w & l->read_named[i]) == l->read_plain[i]) << i;
+    return active;
 }
 
 // The outputs of `own` of the lowest rank among them.
@@ -195,15 +219,16 @@ static uint16_t yielding(const struct constraint *c, uint16_t own, size_t n)
     return out;
 }
 
-static void build(const struct set *s, uint32_t w, struct table *t)
+// The table where the constraints of the mask are active. The two loops over its entries have no branch, so that a compiler makes vector instructions of
+// them, and no rest: the entries are filled up to a multiple of sixteen with such that are never true.
+static void build(const struct set *s, const struct literals *l, uint64_t active, struct table *t)
 {
+    uint64_t holding = active & l->simple;
     t->f0 = t->f1 = 0;
     for (size_t i = 0; i < s->m; i++) {
-        const struct constraint *c = &s->constraints[i];
-        if (__builtin_popcount(c->out_plain | c->out_negated) == 1 && are_reads_true(c, w)) {
-            t->f0 |= c->out_plain;
-            t->f1 |= c->out_negated;
-        }
+        bool held = (holding >> i & 1) != 0;
+        t->f0 |= held ? l->out_plain[i] : 0;
+        t->f1 |= held ? l->out_negated[i] : 0;
     }
     uint16_t unheld = (uint16_t)(((1u << s->n) - 1) & ~(unsigned)(t->f0 | t->f1));
     t->limit = (uint16_t)((1u << __builtin_popcount(unheld)) - 1);
@@ -211,12 +236,16 @@ static void build(const struct set *s, uint32_t w, struct table *t)
     for (size_t i = 0; i < s->m; i++) {
         const struct constraint *c = &s->constraints[i];
         uint16_t named = c->out_plain | c->out_negated;
-        if (__builtin_popcount(named) > 1 && are_reads_true(c, w)) {
+        if (((active ^ holding) >> i & 1) != 0) {
             t->plain[t->count] = c->out_plain;
             t->named[t->count] = named;
             t->flip[t->count] = yielding(c, named & unheld, s->n);
             t->count++;
         }
+    }
+    for (; t->count % LANES != 0; t->count++) {
+        t->plain[t->count] = 1;
+        t->named[t->count] = t->flip[t->count] = 0;
     }
 }
 
@@ -269,14 +298,27 @@ static bool mark_safe(const struct table *t, uint8_t *marks, size_t vectors)
 static bool settle(const struct table *t, uint16_t from, uint8_t *marks)
 {
     uint16_t v = from;
-    for (unsigned made = 0; !marks[v]; made++) {
+    unsigned made = 0;
+    for (; !marks[v]; made++) {
         if (made == t->limit)
             return false;
         v = pass(t, v);
     }
-    for (v = from; !marks[v]; v = pass(t, v))
+    if (made == 0)
+        return true;
+    marks[from] = 1;
+    v = from;
+    for (unsigned k = 1; k < made; k++) {
+        v = pass(t, v);
         marks[v] = 1;
+    }
     return true;
+}
+
+// The place of a mask among the masks of good words.
+static size_t place_of(uint64_t active)
+{
+    return active % PLACES;
 }
 
 static struct verdict judge(const struct set *s, uint8_t *scratch, size_t len)
@@ -286,14 +328,21 @@ static struct verdict judge(const struct set *s, uint8_t *scratch, size_t len)
     size_t vectors = (size_t)1 << s->n;
     if (len < vectors)
         return (struct verdict){ 21, 0, 0 };
+    struct literals l;
+    make_literals(s, &l);
+    uint64_t seen[PLACES] = { 0 };
     for (uint32_t w = 0; w < (uint32_t)1 << s->r; w++) {
+        uint64_t active = active_at(&l, s->m, w);
+        if (seen[place_of(active)] == active)
+            continue;
         struct table t;
-        build(s, w, &t);
+        build(s, &l, active, &t);
         if (!mark_safe(&t, scratch, vectors))
             return (struct verdict){ 22, w, 0 };
         for (size_t g = 0; g < vectors; g++)
             if (!settle(&t, start_vector(&t, (uint16_t)g), scratch))
                 return (struct verdict){ 23, w, (uint16_t)g };
+        seen[place_of(active)] = active;
     }
     return (struct verdict){ 0, 0, 0 };
 }
@@ -346,8 +395,10 @@ static struct sent scan(struct state *st, uint32_t sensor, uint16_t request)
         return (struct sent){ 31, 0, 0 };
     if (request >> s->n != 0)
         return (struct sent){ 32, 0, 0 };
+    struct literals l;
+    make_literals(s, &l);
     struct table t;
-    build(s, read_word(st, sensor), &t);
+    build(s, &l, active_at(&l, s->m, read_word(st, sensor)), &t);
     uint16_t v = start_vector(&t, request), made = 0;
     while (!is_safe(&t, v)) {
         if (made == t.limit)

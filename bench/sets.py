@@ -53,6 +53,14 @@ def counter(n, splits):
     return Set([], names(b"a", n), constraints)
 
 
+def counter_behind_masks(r, n, splits, m):
+    """The counter, with copies of its constraints up to m of them, each copy behind one of r sensors in turn: no two read words have the same
+    active constraints, and the walks are the counter's at every one."""
+    plain = counter(n, splits)
+    copies = [[(i % r, False, False, 0)] + plain.constraints[i] for i in range(m - len(plain.constraints))]
+    return Set(names(b"s", r), plain.outputs, plain.constraints + copies)
+
+
 def largest():
     """The longest file that there is: 16 read points, 8 outputs, names of 8 bytes, 64 constraints of 24 literals."""
     rng = random.Random(5)

@@ -60,7 +60,7 @@ pub fn set(chance: &mut Chance, recipe: Recipe, r: usize, n: usize, m: usize) ->
 }
 
 /// Points with kinds and names, and no constraints.
-fn points(chance: &mut Chance, r: usize, n: usize) -> Set {
+pub fn points(chance: &mut Chance, r: usize, n: usize) -> Set {
     let mut set = Set {
         reads: Vec::new(),
         outputs: Vec::new(),
@@ -93,7 +93,7 @@ fn kind(chance: &mut Chance, set: &Set, n: usize, past_share: usize) -> Kind {
 }
 
 /// A name that no point of the set bears yet.
-fn fresh_name(chance: &mut Chance, set: &Set) -> Vec<u8> {
+pub fn fresh_name(chance: &mut Chance, set: &Set) -> Vec<u8> {
     loop {
         let name = name(chance, set);
         if !set.has_name(&name) {
@@ -145,7 +145,7 @@ fn look_alike(chance: &mut Chance, set: &Set) -> Vec<u8> {
 }
 
 /// Read literals, each point taken once in so many times.
-fn read_literals(chance: &mut Chance, r: usize, times: usize) -> Vec<Literal> {
+pub fn read_literals(chance: &mut Chance, r: usize, times: usize) -> Vec<Literal> {
     let mut literals = Vec::new();
     for number in 0..r {
         if chance.one_in(times) {
@@ -276,7 +276,7 @@ fn chain(chance: &mut Chance, r: usize, n: usize) -> Vec<Constraint> {
 }
 
 /// Literals true at one vector whose lowest ranks lead to the other.
-fn step(chance: &mut Chance, from: usize, to: usize, n: usize) -> Vec<Literal> {
+pub fn step(chance: &mut Chance, from: usize, to: usize, n: usize) -> Vec<Literal> {
     let lowest = chance.below(200) as u8;
     let bit = |vector: usize, output: usize| (vector >> output) % 2 == 1;
     let mut literals = Vec::new();

@@ -1,24 +1,24 @@
 // The scan machine: one scan of a state.
-use super::past::read_word;
+use super::past::read_points;
 use super::past::sensor_before;
 use choice::both;
-use choice::keep32;
 use scan::Set;
 use scan::State;
 use scan::Walk;
-use scan::build;
+use scan::active_at;
+use scan::build_by;
+use scan::columns_of;
 use scan::start_vector;
 use scan::walk_over;
-use shape::is_sensor;
 use shape::well_formed;
 ghost use mathlib.Core.Path.{_≡_};
-ghost use mathlib.Core.Bool.{true};
-ghost use Prim.Native.Nat.{_≤_};
-ghost use Rattle.words.specs.Loop.{word};
-ghost use Rattle.scan.specs.Set.{mostReads};
+ghost use mathlib.Core.Bool.{true, _&&_};
+ghost use Prim.Native.Nat.{_^_};
+ghost use lib.Dec.{eqb, ltb};
+ghost use lib.Bits.{bitAnd};
 ghost use Rattle.scan.specs.Shape.{wellFormed};
 ghost use Rattle.scan.specs.Walk.{walk};
-ghost use Rattle.machine.specs.Machine.{stateOk, isPast, sensorOk, scanOf};
+ghost use Rattle.machine.specs.Machine.{stateOk, scanOf};
 
 // A scan's answer: the vector sent and the passes made, or why it is refused.
 pub enum ScanAnswer {
@@ -35,30 +35,11 @@ pub struct Scanned {
     pub state: State,
 }
 
-// The read points that are no sensors.
-fn past_points(s: Set) -> u32
-    requires { ⌜ s .r ≤ mostReads ⌝ }
-    ensures { λ r. ⌜ r ≡ word (s .r) (isPast s) ⌝ }
+// Whether the word has bits only at sensors: below r, and at none of the past points.
+fn is_sensor_word(r: usize, past: u32, present: u32) -> bool
+    ensures { λ b. ⌜ b ≡ (ltb present (2 ^ r) && eqb (bitAnd present past) 0) ⌝ }
 {
-    let r = s.r;
-    let mut w: u32 = 0;
-    let mut k: usize = 0;
-    while k < r {
-        let p = s.reads[k];
-        let kind = p.kind;
-        w = w | keep32(!is_sensor(kind), 1u32 << k);
-        k = k + 1;
-    }
-    w
-}
-
-// Whether the word has bits only at sensors.
-fn is_sensor_word(s: Set, present: u32) -> bool
-    requires { ⌜ s .r ≤ mostReads ⌝ }
-    ensures { λ r. ⌜ r ≡ sensorOk s present ⌝ }
-{
-    let r = s.r;
-    both(words::fits32(present, r), present & past_points(s) == 0)
+    both(words::fits32(present, r), present & past == 0)
 }
 
 // Whether the set is well formed and the pasts have its widths.
@@ -81,7 +62,10 @@ fn walk_from(s: Set, w: u32, request: u16) -> Walk
     requires { ⌜ wellFormed s ≡ true ⌝ }
     ensures { λ r. ⌜ r ≡ walk s w request ⌝ }
 {
-    let t = build(s, w);
+    let m = s.m;
+    let by = columns_of(s);
+    let active = active_at(&by.read_plain, &by.read_named, m, w);
+    let t = build_by(s, &by.out_plain, &by.out_negated, by.simple, active);
     walk_over(t, start_vector(t.holds.f0, t.holds.f1, request), t.limit)
 }
 
@@ -99,15 +83,16 @@ pub fn scan(state: State, sensor: u32, request: u16) -> Scanned
         return refuse(state, ScanAnswer::BadState);
     }
     let n = state.set.n;
-    if !is_sensor_word(state.set, sensor) {
+    let r = state.set.r;
+    let past = sensor_before(state.accepted, state.past_sensor, sensor);
+    let read = read_points(state.set, state.past_output, past, sensor);
+    if !is_sensor_word(r, read.past, sensor) {
         return refuse(state, ScanAnswer::BadSensor);
     }
     if !words::fits16(request, n) {
         return refuse(state, ScanAnswer::BadRequest);
     }
-    let past = sensor_before(state.accepted, state.past_sensor, sensor);
-    let w = read_word(state.set, state.past_output, past, sensor);
-    let walked = walk_from(state.set, w, request);
+    let walked = walk_from(state.set, read.word, request);
     match walked {
         Walk::Safe { vector, passes } => {
             let mut next = state;

@@ -53,6 +53,7 @@ use Rattle.promise.proofs.TextRefusals.{text-refusals}
 use Rattle.promise.proofs.ExactVerdicts.{told-accepted, exact-verdict, exact-start}
 use Rattle.promise.proofs.ScanLists.{sends-mean, right-scans}
 use Rattle.promise.proofs.PowerUps.{power-up}
+use Rattle.promise.proofs.OneWords.{by-active}
 
 -- ---- demand 1
 
@@ -160,6 +161,7 @@ promise = record {
   meanings = meanings;
   reads = reads-mean;
   power-up = power-up;
+  by-active = λ s w ok. by-active s ok w;
   name-bytes = name-bytes-iff;
   files = file-says;
   lone-ranks = lone-ranks-unread;

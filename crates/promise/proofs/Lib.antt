@@ -15,6 +15,7 @@ pub mod SetRefusals
 pub mod ScanRefusals
 pub mod ReadMeanings
 pub mod PowerUps
+pub mod OneWords
 pub mod NameRefusals
 pub mod NameMeanings
 pub mod PlaceMeanings

@@ -10,6 +10,7 @@ pub mod Meanings
 pub mod Scans
 pub mod NeverTold
 pub mod PowerUp
+pub mod OneWord
 pub mod Promise
 pub mod Cases
 pub mod Lines

@@ -43,6 +43,7 @@ use Rattle.promise.specs.Verdicts.{EndsSafe, GoodWord, BadWord, FirstNoV
 use Rattle.promise.specs.Scans.{SendsDue, EveryRight, StateOfList}
 use Rattle.promise.specs.NeverTold.{NeverTold}
 use Rattle.promise.specs.PowerUp.{PowerUp}
+use Rattle.promise.specs.OneWord.{ByActive}
 
 -- ---- demand 1: what is turned down, by which number, and what is left as it was
 
@@ -202,6 +203,8 @@ pub record Promise : Type 0 where
   pub reads : (st : State) (present : ℕ) → ReadsMean st present
   -- no rising edge on power-up: the mark of a state, and the scans until one is accepted
   pub power-up : PowerUp
+  -- holds looked up once for a word: judging and walking by the active constraints, and no read word
+  pub by-active : (s : Set) (w : ℕ) → wellFormed s ≡ true → ByActive s w
   -- a name byte is 0x21 to 0x7E
   pub name-bytes : (bytes : List ℕ) → NameBytesMean bytes
   -- what a file says

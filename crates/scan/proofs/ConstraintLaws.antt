@@ -1,17 +1,18 @@
 -- Simple and combined constraints: a simple one has one output literal, and one with an output is simple or combined.
 -- Assumes nothing.
-use mathlib.Core.Path.{_≡_, ap, ap₂, _∙_, subst}
-use mathlib.Core.Bool.{true, false, _&&_}
+use mathlib.Core.Path.{_≡_, sym, ap, ap₂, _∙_, subst}
+use mathlib.Core.Bool.{true, false, not, _&&_}
 use Prim.Native.Nat.{ℕ, _^_, _≤_, _<_}
 use native.Mathlib.Nat.{lt-of-lt-of-le}
 use native.Mathlib.Decide.{ℕ-discrete}
 use native.Mathlib.Omega.{arith}
+use lib.Dec.{ltb}
 use lib.Count.{onesIn}
 use lib.Pow.{pow-mono}
 use borrow.Author.Tests.{eqb-true, eqb-false, lt-ltb}
 use Rattle.words.specs.Word.{bit, popcount}
 use Rattle.words.proofs.BitLaws.{bit-and, bit-or, bit-zero, bit-below, bits-meet}
-use Rattle.words.proofs.BoolLaws.{clash, or-left, or-right}
+use Rattle.words.proofs.BoolLaws.{by-test, clash, or-left, or-right}
 use Rattle.words.proofs.PopcountLaws.{one-set, none-zero}
 use Rattle.scan.specs.declared.set.Constraint.{Constraint}
 use Rattle.scan.specs.Set.{mostOutputs, outs}
@@ -33,6 +34,14 @@ module _ (r n : ℕ) (c : Constraint) (n-le : n ≤ mostOutputs) (ms : Masks r n
       more : Dec (onesIn 16 (outs c) ≡ 0) → (onesIn 16 (outs c) ≡ 1 → ⊥) → 1 < onesIn 16 (outs c)
       more (yes z) ne = let none : outs c ≡ 0 = none-zero 16 (outs c) wide z in absurd (omega (arith, ms .has-out))
       more (no nz) ne = omega arith
+
+  -- and not both
+  pub combined-is : combined c ≡ not (simple c)
+  unfolding simple combined
+  combined-is =
+      by-test (simple c)
+      (λ e. ap (λ (k : ℕ). ltb 1 k) (eqb-true (popcount (outs c)) 1 e) ∙ sym (ap not e))
+      (λ e. simple-or-combined e ∙ sym (ap not e))
 
   -- no output is named both ways
   pub not-both : (k : ℕ) → bit k (c .«out_plain») ≡ true → bit k (c .«out_negated») ≡ true → ⊥

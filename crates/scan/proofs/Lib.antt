@@ -7,5 +7,6 @@ pub mod ConstraintLaws
 pub mod SafeLaws
 pub mod WalkLaws
 pub mod SameDue
+pub mod ActiveLaws
 pub mod TableLaws
 pub mod LoneRanks

@@ -1,4 +1,4 @@
--- A read word's table: one more constraint, what the whole table tells, and the walk over it, which is the set's walk.
+-- The table of the active constraints: one more constraint, what the whole table tells, and the walk over it, which is the set's walk.
 -- Assumes nothing.
 use mathlib.Core.Path.{_≡_, refl, sym, ap, ap₂, subst, fun-ext, _∙_}
 use mathlib.Core.Bool.{Bool, true, false, cond, not, _&&_, _||_, or-false}
@@ -8,85 +8,115 @@ use native.Mathlib.Nat.{min-eq-left}
 use native.Mathlib.Numerals.{add-one}
 use native.Mathlib.Omega.{arith}
 use lib.Dec.{eqb}
-use lib.ListN.{length, getD, set, length-set}
+use lib.ListN.{length, getD, set, replicate, length-set, getD-replicate}
 use lib.Seq.{getD-set-same, getD-set-other}
-use lib.Bits.{bitAnd, bitOr, bitXor, or-zero-r}
-use Rattle.words.specs.Word.{meets}
+use lib.Bits.{bitAnd, bitOr, bitXor, or-zero-r, and-zero-r}
+use Rattle.words.specs.Word.{bit, without, meets}
 use Rattle.words.specs.Loop.{gather, some}
-use Rattle.words.proofs.BoolLaws.{by-test, cond-true, cond-false, and-assoc}
+use Rattle.words.proofs.BoolLaws.{by-test, cond-true, cond-false}
 use Rattle.words.proofs.BitLaws.{meets-once}
-use Rattle.words.proofs.LoopLaws.{gather-cong, some-cong}
+use Rattle.words.proofs.LoopLaws.{gather-cong, some-cong, still}
 use Rattle.words.proofs.LoopTurns.{gather-none, gather-more, some-none, some-more}
 use Rattle.scan.specs.declared.set.Constraint.{Constraint}
 use Rattle.scan.specs.declared.set.Set.{Set}
 use Rattle.scan.specs.declared.holds.Holds.{Holds}
+use Rattle.scan.specs.declared.columns.Columns.{Columns}
 use Rattle.scan.specs.declared.table.Table.{Table}
-use Rattle.scan.specs.Set.{mostOutputs, mostConstraints, withCounts, constraint, outs}
+use Rattle.scan.specs.Set.{mostOutputs, mostConstraints, constraint, outs}
 use Rattle.scan.specs.Shape.{wellFormed}
-use Rattle.scan.specs.Constraint.{readsTrue, outsTrue, isTrue, combined, safe}
-use Rattle.scan.specs.Holds.{passLimit, startFrom, startVector}
-use Rattle.scan.specs.way.Holds.{holdsOf}
-use Rattle.scan.specs.Pass.{yields, fires, flips, pass}
-use Rattle.scan.specs.way.Table.{capped, active, emptyTable, withEntry, tableUpto, tableOf, entryTrue, entryFlips, flipsOver, passOver, anyTrue, safeOver, safeIn, passIn, walkIn}
+use Rattle.scan.specs.Constraint.{outsTrue, safe}
+use Rattle.scan.specs.Active.{activeOf}
+use Rattle.scan.specs.Holds.{unheldBy, unheld, unheldCount, passLimit, startFrom, startVector}
+use Rattle.scan.specs.Pass.{yielding, yields, fires, flips, pass}
 use Rattle.scan.specs.Walk.{walkBy, walk}
+use Rattle.scan.specs.way.Holds.{holdsOf, holdsBy, limitBy}
+use Rattle.scan.specs.way.Columns.{columnsOf, entryTrue}
+use Rattle.scan.specs.way.Table.{outputsIn, unheldIn, yieldsIn, emptyTable, withEntry, withCount, tableUpto, evened, tableBy, tableOf, entryFlips, flipsOver, passOver, anyTrue, safeOver, safeIn, passIn, walkIn}
 use Rattle.scan.proofs.ShapeLaws.{counts, masks, wide}
 use Rattle.scan.proofs.SafeLaws.{safe-table}
+use Rattle.scan.proofs.ActiveLaws.{counted-all, holds-are, fires-by}
 
--- ---- one more constraint, at the code's `i + 1`
+module _ (s : Set) (h : Holds) (entered : ℕ) where
+  -- ---- one more constraint, at the code's `i + 1`
 
-pub upto-none : (s : Set) (w : ℕ) → tableUpto s w 0 ≡ emptyTable s w
-unfolding tableUpto
-upto-none s w = refl
+  pub upto-none : tableUpto s h entered 0 ≡ emptyTable s h
+  unfolding tableUpto
+  upto-none = refl
 
-pub upto-on : (s : Set) (w i : ℕ) → active (constraint s i) w ≡ true
-    → tableUpto s w (i + 1) ≡ withEntry (constraint s i) (yields s w i) (tableUpto s w i)
-unfolding tableUpto
-upto-on s w i e =
-    ap (tableUpto s w) (add-one i)
-    ∙ sym (cond-true (active (constraint s i) w) (withEntry (constraint s i) (yields s w i) (tableUpto s w i)) (tableUpto s w i) e)
+  pub upto-on : (i : ℕ) → bit i entered ≡ true
+      → tableUpto s h entered (i + 1) ≡ withEntry (constraint s i) (yieldsIn s h i) (tableUpto s h entered i)
+  unfolding tableUpto
+  upto-on i e = ap (tableUpto s h entered) (add-one i) ∙ sym (cond-true (bit i entered) _ (tableUpto s h entered i) e)
 
-pub upto-off : (s : Set) (w i : ℕ) → active (constraint s i) w ≡ false → tableUpto s w (i + 1) ≡ tableUpto s w i
-unfolding tableUpto
-upto-off s w i e =
-    ap (tableUpto s w) (add-one i)
-    ∙ sym (cond-false (active (constraint s i) w) (withEntry (constraint s i) (yields s w i) (tableUpto s w i)) (tableUpto s w i) e)
+  pub upto-off : (i : ℕ) → bit i entered ≡ false → tableUpto s h entered (i + 1) ≡ tableUpto s h entered i
+  unfolding tableUpto
+  upto-off i e = ap (tableUpto s h entered) (add-one i) ∙ sym (cond-false (bit i entered) _ (tableUpto s h entered i) e)
 
--- what holds of the empty table, and with one more constraint whenever it held before, holds of the table after i of them
-upto-ind : (s : Set) (w i : ℕ) (P : ℕ → Table → Type 0) → P 0 (emptyTable s w)
-    → ((k : ℕ) → k < i → P k (tableUpto s w k) → active (constraint s k) w ≡ true
-    → P (k + 1) (withEntry (constraint s k) (yields s w k) (tableUpto s w k)))
-    → ((k : ℕ) → k < i → P k (tableUpto s w k) → active (constraint s k) w ≡ false → P (k + 1) (tableUpto s w k))
-    → P i (tableUpto s w i)
-upto-ind s w zero P none on off = subst (P 0) (sym (upto-none s w)) none
-upto-ind s w (suc i) P none on off =
-    let so-far = upto-ind s w i P none (λ k h. on k (omega arith)) (λ k h. off k (omega arith)) in
-    subst (λ (k : ℕ). P k (tableUpto s w k)) (add-one i)
-    (by-test (active (constraint s i) w)
-    (λ e. subst (P (i + 1)) (sym (upto-on s w i e)) (on i (omega arith) so-far e))
-    (λ e. subst (P (i + 1)) (sym (upto-off s w i e)) (off i (omega arith) so-far e)))
+  -- what holds of the empty table, and with one more constraint whenever it held before, holds of the table after i of them
+  upto-ind : (i : ℕ) (P : ℕ → Table → Type 0) → P 0 (emptyTable s h)
+      → ((k : ℕ) → k < i → P k (tableUpto s h entered k) → bit k entered ≡ true
+      → P (k + 1) (withEntry (constraint s k) (yieldsIn s h k) (tableUpto s h entered k)))
+      → ((k : ℕ) → k < i → P k (tableUpto s h entered k) → bit k entered ≡ false → P (k + 1) (tableUpto s h entered k))
+      → P i (tableUpto s h entered i)
+  upto-ind zero P none on off = subst (P 0) (sym upto-none) none
+  upto-ind (suc i) P none on off =
+      let so-far = upto-ind i P none (λ k l. on k (omega arith)) (λ k l. off k (omega arith)) in
+      subst (λ (k : ℕ). P k (tableUpto s h entered k)) (add-one i)
+      (by-test (bit i entered)
+      (λ e. subst (P (i + 1)) (sym (upto-on i e)) (on i (omega arith) so-far e))
+      (λ e. subst (P (i + 1)) (sym (upto-off i e)) (off i (omega arith) so-far e)))
 
 -- ---- its form
 
--- the holds are the set's, and the lists have a place for each constraint
-pub record Formed (s : Set) (w : ℕ) (t : Table) : Type 0 where
-  pub holds-is : t .holds ≡ holdsOf s w
-  pub limit-is : t .limit ≡ passLimit s w
+-- the entries other than n are as they were, and entry n is what is stored
+old : (l : List ℕ) (n a j : ℕ) → (j ≡ n → ⊥) → getD l j 0 ≡ getD (set l n a) j 0
+old l n a j h = sym (getD-set-other l n j a 0 h)
+
+new : (l : List ℕ) (n a : ℕ) → n < length l → a ≡ getD (set l n a) n 0
+new l n a h = sym (getD-set-same l n a 0 h)
+
+-- an entry stored at n leaves the others as they were
+true-old : (plain named : List ℕ) (n p q v j : ℕ) → (j ≡ n → ⊥) → entryTrue plain named v j ≡ entryTrue (set plain n p) (set named n q) v j
+unfolding entryTrue
+true-old plain named n p q v j l = λ k. eqb (bitAnd v (old named n q j l k)) (old plain n p j l k)
+
+-- the holds are those given, the lists have a place for each constraint, and no place behind the entries is ever true
+pub record Formed (s : Set) (h : Holds) (t : Table) : Type 0 where
+  pub holds-is : t .holds ≡ h
+  pub limit-is : t .limit ≡ limitBy (unheldIn s h)
   pub plain-places : length (t .plain) ≡ mostConstraints
   pub named-places : length (t .named) ≡ mostConstraints
   pub flip-places : length (t .flip) ≡ mostConstraints
+  pub spare : (v j : ℕ) → t .count ≤ j → j < mostConstraints → entryTrue (t .plain) (t .named) v j ≡ false
 
-pub upto-formed : (s : Set) (w i : ℕ) → Formed s w (tableUpto s w i)
-upto-formed s w i =
-    upto-ind s w i (λ (k : ℕ) (t : Table). Formed s w t)
-    (record { holds-is = refl; limit-is = refl; plain-places = refl; named-places = refl; flip-places = refl })
-    (λ k h f e. let t = tableUpto s w k in record {
+empty-spare : (s : Set) (h : Holds) (v j : ℕ) → j < mostConstraints → entryTrue (emptyTable s h .plain) (emptyTable s h .named) v j ≡ false
+unfolding entryTrue
+empty-spare s h v j l =
+    ap₂ (λ (named plain : ℕ). eqb (bitAnd v named) plain) (getD-replicate mostConstraints j 0 0 l) (getD-replicate mostConstraints j 1 0 l)
+    ∙ ap (λ (x : ℕ). eqb x 1) (and-zero-r v)
+
+pub upto-formed : (s : Set) (h : Holds) (entered i : ℕ) → Formed s h (tableUpto s h entered i)
+upto-formed s h entered i =
+    upto-ind s h entered i (λ (k : ℕ) (t : Table). Formed s h t)
+    (record {
+      holds-is = refl;
+      limit-is = refl;
+      plain-places = refl;
+      named-places = refl;
+      flip-places = refl;
+      spare = λ v j l b. empty-spare s h v j b;
+    })
+    (λ k l f e. let t = tableUpto s h entered k in record {
       holds-is = f .holds-is;
       limit-is = f .limit-is;
       plain-places = length-set (t .plain) (t .count) _ ∙ f .plain-places;
       named-places = length-set (t .named) (t .count) _ ∙ f .named-places;
       flip-places = length-set (t .flip) (t .count) _ ∙ f .flip-places;
+      spare = λ v j m b.
+          sym (true-old (t .plain) (t .named) (t .count) (constraint s k .«out_plain») (outs (constraint s k)) v j (λ q. absurd (omega arith)))
+          ∙ f .spare v j (omega arith) b;
     })
-    (λ k h f e. f)
+    (λ k l f e. f)
 
 -- ---- what it tells
 
@@ -102,121 +132,171 @@ pub record Tells (s : Set) (w i : ℕ) (t : Table) : Type 0 where
   pub flipped : (v : ℕ) → gather i (flips s w v) ≡ gather (t .count) (entryFlips (t .plain) (t .named) (t .flip) v)
   pub anys : (v : ℕ) → some i (fires s w v) ≡ some (t .count) (entryTrue (t .plain) (t .named) v)
 
--- the entries below n are as they were, and entry n is what is stored
-old : (l : List ℕ) (n a j : ℕ) → j < n → getD l j 0 ≡ getD (set l n a) j 0
-old l n a j h = sym (getD-set-other l n j a 0 (omega arith))
+-- where the constraints entered are those that fire with their output literals, and these holds make the same outputs yield
+module _ (s : Set) (w : ℕ) (h : Holds) (entered m : ℕ)
+    (fire : (v i : ℕ) → i < m → fires s w v i ≡ bit i entered && outsTrue (constraint s i) v)
+    (yield : (i : ℕ) → yields s w i ≡ yieldsIn s h i) where
+  module _ (i : ℕ) (below : i < m) (v : ℕ) (b : Bool) (e : bit i entered ≡ b) where
+    fires-where : fires s w v i ≡ b && outsTrue (constraint s i) v
+    fires-where = fire v i below ∙ ap (λ (x : Bool). x && outsTrue (constraint s i) v) e
 
-new : (l : List ℕ) (n a : ℕ) → n < length l → a ≡ getD (set l n a) n 0
-new l n a h = sym (getD-set-same l n a 0 h)
+    flips-where : flips s w v i ≡ cond (b && outsTrue (constraint s i) v) (yieldsIn s h i) 0
+    unfolding flips
+    flips-where = ap₂ (λ (x : Bool) (y : ℕ). cond x y 0) fires-where (yield i)
 
-module _ (s : Set) (w i : ℕ) (v : ℕ) (b : Bool) (e : active (constraint s i) w ≡ b) where
-  fires-by : fires s w v i ≡ (b && outsTrue (constraint s i) v)
-  unfolding fires isTrue active
-  fires-by =
-      and-assoc (combined (constraint s i)) (readsTrue (constraint s i) w) (outsTrue (constraint s i) v)
-      ∙ ap (λ (x : Bool). x && outsTrue (constraint s i) v) e
-
-  flips-by : flips s w v i ≡ cond (b && outsTrue (constraint s i) v) (yields s w i) 0
-  unfolding flips
-  flips-by = ap (λ (x : Bool). cond x (yields s w i) 0) fires-by
-
-passed-over : (s : Set) (w i : ℕ) (t : Table) → Tells s w i t → active (constraint s i) w ≡ false → Tells s w (i + 1) t
-passed-over s w i t so-far e = record {
-  few = omega arith;
-  flipped = λ v. gather-more i _ ∙ ap₂ bitOr (so-far .flipped v) (flips-by s w i v false e) ∙ or-zero-r _;
-  anys = λ v. some-more i _ ∙ ap₂ _||_ (so-far .anys v) (fires-by s w i v false e) ∙ or-false _;
-}
-
-module _ (s : Set) (w i : ℕ) (t : Table) (f : Formed s w t) (room : t .count < mostConstraints) (apart : Apart (constraint s i)) where
-  -- the table with the constraint's entry
-  abbrev more : Table
-  more = withEntry (constraint s i) (yields s w i) t
-
-  -- an entry stored before is as it was
-  true-old : (v j : ℕ) → j < t .count → entryTrue (t .plain) (t .named) v j ≡ entryTrue (more .plain) (more .named) v j
-  unfolding entryTrue
-  true-old v j l = λ k.
-      eqb (bitAnd v (old (t .named) (t .count) (outs (constraint s i)) j l k))
-      (old (t .plain) (t .count) (constraint s i .«out_plain») j l k)
-
-  -- the new one is true where the constraint's output literals are
-  true-new : (v : ℕ) → outsTrue (constraint s i) v ≡ entryTrue (more .plain) (more .named) v (t .count)
-  unfolding outsTrue entryTrue
-  true-new v =
-      meets-once 16 (constraint s i .«out_plain») (constraint s i .«out_negated») v (apart .plain) (apart .negated) (apart .once)
-      ∙ (λ k. eqb (bitAnd v (new (t .named) (t .count) (outs (constraint s i)) (omega arith) k))
-      (new (t .plain) (t .count) (constraint s i .«out_plain») (omega arith) k))
-
-  stored : Tells s w i t → active (constraint s i) w ≡ true → Tells s w (i + 1) more
-  unfolding entryFlips
-  stored so-far e = record {
+  passed-over : (i : ℕ) → i < m → (t : Table) → Tells s w i t → bit i entered ≡ false → Tells s w (i + 1) t
+  passed-over i below t so-far e = record {
     few = omega arith;
-    flipped = λ v.
-        gather-more i _
-        ∙ ap₂ bitOr
-        (so-far .flipped v
-        ∙ gather-cong (t .count) _ _ (λ j l. λ k. cond (true-old v j l k) (old (t .flip) (t .count) (yields s w i) j l k) 0))
-        (flips-by s w i v true e ∙ (λ k. cond (true-new v k) (new (t .flip) (t .count) (yields s w i) (omega arith) k) 0))
-        ∙ sym (gather-more (t .count) _);
-    anys = λ v.
-        some-more i _
-        ∙ ap₂ _||_ (so-far .anys v ∙ some-cong (t .count) _ _ (true-old v)) (fires-by s w i v true e ∙ true-new v)
-        ∙ sym (some-more (t .count) _);
+    flipped = λ v. gather-more i _ ∙ ap₂ bitOr (so-far .flipped v) (flips-where i below v false e) ∙ or-zero-r _;
+    anys = λ v. some-more i _ ∙ ap₂ _||_ (so-far .anys v) (fires-where i below v false e) ∙ or-false _;
   }
 
-pub tells : (s : Set) (w i : ℕ) → i ≤ mostConstraints → ((j : ℕ) → j < i → Apart (constraint s j)) → Tells s w i (tableUpto s w i)
-tells s w i small apart =
-    upto-ind s w i (Tells s w)
-    (record { few = omega arith; flipped = λ v. sym (gather-none _) ∙ gather-none _; anys = λ v. some-none _ ∙ sym (some-none _) })
-    (λ k l so-far e. stored s w k (tableUpto s w k) (upto-formed s w k) (omega (arith, so-far .few)) (apart k l) so-far e)
-    (λ k l so-far e. passed-over s w k (tableUpto s w k) so-far e)
+  module _ (i : ℕ) (below : i < m) (t : Table) (f : Formed s h t) (room : t .count < mostConstraints) (apart : Apart (constraint s i)) where
+    -- the table with the constraint's entry
+    abbrev more : Table
+    more = withEntry (constraint s i) (yieldsIn s h i) t
+
+    -- an entry stored before is as it was
+    before : (v j : ℕ) → j < t .count → entryTrue (t .plain) (t .named) v j ≡ entryTrue (more .plain) (more .named) v j
+    before v j l = true-old (t .plain) (t .named) (t .count) (constraint s i .«out_plain») (outs (constraint s i)) v j (λ q. absurd (omega arith))
+
+    -- the new one is true where the constraint's output literals are
+    true-new : (v : ℕ) → outsTrue (constraint s i) v ≡ entryTrue (more .plain) (more .named) v (t .count)
+    unfolding outsTrue entryTrue
+    true-new v =
+        meets-once 16 (constraint s i .«out_plain») (constraint s i .«out_negated») v (apart .plain) (apart .negated) (apart .once)
+        ∙ (λ k. eqb (bitAnd v (new (t .named) (t .count) (outs (constraint s i)) (omega arith) k))
+        (new (t .plain) (t .count) (constraint s i .«out_plain») (omega arith) k))
+
+    stored : Tells s w i t → bit i entered ≡ true → Tells s w (i + 1) more
+    unfolding entryFlips
+    stored so-far e = record {
+      few = omega arith;
+      flipped = λ v.
+          gather-more i _
+          ∙ ap₂ bitOr
+          (so-far .flipped v
+          ∙ gather-cong (t .count) _ _ (λ j l. λ k. cond (before v j l k) (old (t .flip) (t .count) (yieldsIn s h i) j (λ q. absurd (omega arith)) k) 0))
+          (flips-where i below v true e ∙ (λ k. cond (true-new v k) (new (t .flip) (t .count) (yieldsIn s h i) (omega arith) k) 0))
+          ∙ sym (gather-more (t .count) _);
+      anys = λ v.
+          some-more i _
+          ∙ ap₂ _||_ (so-far .anys v ∙ some-cong (t .count) _ _ (before v)) (fires-where i below v true e ∙ true-new v)
+          ∙ sym (some-more (t .count) _);
+    }
+
+  tells : m ≤ mostConstraints → ((j : ℕ) → j < m → Apart (constraint s j)) → (i : ℕ) → i ≤ m → Tells s w i (tableUpto s h entered i)
+  tells small apart i few =
+      upto-ind s h entered i (Tells s w)
+      (record { few = omega arith; flipped = λ v. sym (gather-none _) ∙ gather-none _; anys = λ v. some-none _ ∙ sym (some-none _) })
+      (λ k l so-far e.
+      stored k (omega arith) (tableUpto s h entered k) (upto-formed s h entered k) (omega (arith, so-far .few)) (apart k (omega arith)) so-far e)
+      (λ k l so-far e. passed-over k (omega arith) (tableUpto s h entered k) so-far e)
 
 -- ---- the whole table
 
-pub capped-formed : (s : Set) → s .n ≤ mostOutputs → s .m ≤ mostConstraints → capped s ≡ s
-capped-formed s hn hm = ap₂ (λ (n m : ℕ). withCounts s (s .r) n m) (min-eq-left hn) (min-eq-left hm)
+-- the entries that fill it up flip nothing, and none is true
+module _ (t : Table) (v : ℕ) (few : t .count ≤ mostConstraints)
+    (spare : (j : ℕ) → t .count ≤ j → j < mostConstraints → entryTrue (t .plain) (t .named) v j ≡ false) where
+  evened-fits : min (evened (t .count)) mostConstraints ≡ evened (t .count)
+  evened-fits = min-eq-left {m = mostConstraints} (omega arith)
 
--- of a well-formed set: the table's safety, pass, start vector and pass limit are the set's, and so is the walk
+  flips-evened : flipsOver (t .plain) (t .named) (t .flip) (evened (t .count)) v ≡ gather (t .count) (entryFlips (t .plain) (t .named) (t .flip) v)
+  unfolding flipsOver entryFlips
+  flips-evened =
+      ap (λ (k : ℕ). gather k (entryFlips (t .plain) (t .named) (t .flip) v)) evened-fits
+      ∙ still (λ k. gather k (entryFlips (t .plain) (t .named) (t .flip) v)) (t .count) (evened (t .count)) (omega arith)
+      (λ k l b. gather-more k _ ∙ ap (λ (x : Bool). bitOr (gather k (entryFlips (t .plain) (t .named) (t .flip) v)) (cond x (getD (t .flip) k 0) 0)) (spare k l (omega arith)) ∙ or-zero-r _)
+
+  any-evened : anyTrue (t .plain) (t .named) (evened (t .count)) v ≡ some (t .count) (entryTrue (t .plain) (t .named) v)
+  unfolding anyTrue
+  any-evened =
+      ap (λ (k : ℕ). some k (entryTrue (t .plain) (t .named) v)) evened-fits
+      ∙ still (λ k. some k (entryTrue (t .plain) (t .named) v)) (t .count) (evened (t .count)) (omega arith)
+      (λ k l b. some-more k _ ∙ ap (λ (x : Bool). some k (entryTrue (t .plain) (t .named) v) || x) (spare k l (omega arith)) ∙ or-false _)
+
+-- what the code makes of the columns of a set and a mask is its table
+pub made-table : (s : Set) (l : Columns) → l ≡ columnsOf s → (active : ℕ) (t : Table)
+    → t ≡ tableBy s (holdsBy (l .«out_plain») (l .«out_negated») (s .m) (bitAnd active (l .simple))) (without active (l .simple)) → t ≡ tableOf s active
+unfolding tableOf
+made-table s l el active t et =
+    et ∙ ap (λ (x : Columns). tableBy s (holdsBy (x .«out_plain») (x .«out_negated») (s .m) (bitAnd active (x .simple))) (without active (x .simple))) el
+
+-- of a well-formed set, where the active constraints are those of a read word: the table's safety, pass, start vector and pass limit are the set's there, and so
+-- is the walk
 module _ (s : Set) (w : ℕ) (ok : wellFormed s ≡ true) where
   apart : (i : ℕ) → i < s .m → Apart (constraint s i)
   apart i h =
       let c = masks s ok i h in
       record { plain = wide s ok _ (c .out-plain); negated = wide s ok _ (c .out-negated); once = c .out-once }
 
-  table-is : tableOf s w ≡ tableUpto s w (s .m)
-  unfolding tableOf
-  table-is = ap (λ (x : Set). tableUpto x w (x .m)) (capped-formed s (counts s ok .n-le) (counts s ok .m-le))
+  outputs-all : outputsIn s ≡ s .n
+  outputs-all = min-eq-left (counts s ok .n-le)
 
-  table-formed : Formed s w (tableOf s w)
-  table-formed = subst (Formed s w) (sym table-is) (upto-formed s w (s .m))
+  unheld-is : unheldIn s (holdsOf s w) ≡ unheld s w
+  unfolding unheldIn unheld
+  unheld-is = ap (λ (n : ℕ). unheldBy n (holdsOf s w .f0) (holdsOf s w .f1)) outputs-all
 
-  table-tells : Tells s w (s .m) (tableOf s w)
-  table-tells = subst (Tells s w (s .m)) (sym table-is) (tells s w (s .m) (counts s ok .m-le) apart)
+  yields-is : (i : ℕ) → yields s w i ≡ yieldsIn s (holdsOf s w) i
+  unfolding yields yieldsIn
+  yields-is i = sym (λ j. yielding (outputs-all j) (constraint s i) (bitAnd (outs (constraint s i)) (unheld-is j)))
 
-  -- the entries all fit
-  table-few : min (tableOf s w .count) mostConstraints ≡ tableOf s w .count
-  table-few = min-eq-left {m = mostConstraints} (omega (arith, table-tells .few, counts s ok .m-le))
+  -- the constraints that have an entry
+  abbrev entered : ℕ
+  entered = without (activeOf s w) (columnsOf s .simple)
 
-  pub table-limit : tableOf s w .limit ≡ passLimit s w
-  table-limit = table-formed .limit-is
+  -- the table before it is filled up
+  abbrev entries : Table
+  entries = tableUpto s (holdsOf s w) entered (s .m)
 
-  pub table-start : (request : ℕ) → startFrom (tableOf s w .holds .f0) (tableOf s w .holds .f1) request ≡ startVector s w request
+  table-is : tableOf s (activeOf s w) ≡ withCount (evened (entries .count)) entries
+  unfolding tableOf tableBy
+  table-is =
+      ap (λ (h : Holds). tableBy s h entered) (holds-are s ok w)
+      ∙ ap (λ (k : ℕ). withCount (evened (tableUpto s (holdsOf s w) entered k .count)) (tableUpto s (holdsOf s w) entered k)) (counted-all s ok)
+
+  formed : Formed s (holdsOf s w) entries
+  formed = upto-formed s (holdsOf s w) entered (s .m)
+
+  told : Tells s w (s .m) entries
+  told = tells s w (holdsOf s w) entered (s .m) (fires-by s ok w) yields-is (counts s ok .m-le) apart (s .m) (omega arith)
+
+  few : entries .count ≤ mostConstraints
+  few = omega (arith, told .few, counts s ok .m-le)
+
+  pub table-limit : tableOf s (activeOf s w) .limit ≡ passLimit s w
+  unfolding unheldCount
+  table-limit = ap (λ (t : Table). t .limit) table-is ∙ formed .limit-is ∙ ap limitBy unheld-is
+
+  pub table-holds : tableOf s (activeOf s w) .holds ≡ holdsOf s w
+  table-holds = ap (λ (t : Table). t .holds) table-is ∙ formed .holds-is
+
+  pub table-start : (request : ℕ)
+      → startFrom (tableOf s (activeOf s w) .holds .f0) (tableOf s (activeOf s w) .holds .f1) request ≡ startVector s w request
   unfolding startVector
-  table-start request = ap (λ (h : Holds). startFrom (h .f0) (h .f1) request) (table-formed .holds-is)
+  table-start request = ap (λ (h : Holds). startFrom (h .f0) (h .f1) request) table-holds
 
-  pub table-pass : (v : ℕ) → passIn (tableOf s w) v ≡ pass s w v
-  unfolding flipsOver passOver pass
+  pub table-pass : (v : ℕ) → passIn (tableOf s (activeOf s w)) v ≡ pass s w v
+  unfolding passOver pass
   table-pass v =
-      let t = tableOf s w in
-      ap (bitXor v) (ap (λ (k : ℕ). gather k (entryFlips (t .plain) (t .named) (t .flip) v)) table-few ∙ sym (table-tells .flipped v))
+      ap (λ (t : Table). passIn t v) table-is
+      ∙ ap (bitXor v) (flips-evened entries v few (formed .spare v) ∙ sym (told .flipped v))
 
-  pub table-safe : (v : ℕ) → safeIn (tableOf s w) v ≡ safe s w v
-  unfolding safeOver anyTrue
+  pub table-safe : (v : ℕ) → safeIn (tableOf s (activeOf s w)) v ≡ safe s w v
+  unfolding safeOver
   table-safe v =
-      let t = tableOf s w in
-      let anys = ap (λ (k : ℕ). some k (entryTrue (t .plain) (t .named) v)) table-few ∙ sym (table-tells .anys v) in
-      (λ i. meets (table-formed .holds-is i .f1) (table-formed .holds-is i .f0) v && not (anys i)) ∙ sym (safe-table s w v ok)
+      let anys = any-evened entries v few (formed .spare v) ∙ sym (told .anys v) in
+      ap (λ (t : Table). safeIn t v) table-is
+      ∙ (λ i. meets (formed .holds-is i .f1) (formed .holds-is i .f0) v && not (anys i)) ∙ sym (safe-table s w v ok)
 
-  pub table-walk : (request : ℕ) → walkIn (tableOf s w) request ≡ walk s w request
+  pub table-walk : (request : ℕ) → walkIn (tableOf s (activeOf s w)) request ≡ walk s w request
   unfolding walk
   table-walk request = λ i. walkBy (fun-ext table-safe i) (fun-ext table-pass i) (table-limit i) (table-start request i) 0
+
+-- two words with the same active constraints have the same safe vectors and the same walks
+module _ (s : Set) (ok : wellFormed s ≡ true) (u w : ℕ) (same : activeOf s u ≡ activeOf s w) where
+  pub same-safe : (v : ℕ) → safe s u v ≡ safe s w v
+  same-safe v = sym (table-safe s u ok v) ∙ ap (λ (a : ℕ). safeIn (tableOf s a) v) same ∙ table-safe s w ok v
+
+  pub same-walk : (request : ℕ) → walk s u request ≡ walk s w request
+  same-walk request = sym (table-walk s u ok request) ∙ ap (λ (a : ℕ). walkIn (tableOf s a) request) same ∙ table-walk s w ok request

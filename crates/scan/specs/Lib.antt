@@ -2,6 +2,7 @@ pub mod Set
 pub mod Names
 pub mod Shape
 pub mod Constraint
+pub mod Active
 pub mod Holds
 pub mod Pass
 pub mod Walk

@@ -1,3 +1,4 @@
 -- The code's way: definitions that the contracts of inner functions name, and that laws join to the definitions beside this file.
+pub mod Columns
 pub mod Holds
 pub mod Table

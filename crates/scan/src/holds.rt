@@ -1,17 +1,12 @@
-// The outputs that simple constraints hold at a read word, and the vector that a walk starts from.
-use super::constraint::are_reads_true;
-use super::constraint::is_simple;
+// The outputs that simple constraints hold, and the vector that a walk starts from.
 use super::pick::keep16;
-use super::set::Constraint;
-use super::set::Set;
-use choice::both;
+use super::set::MOST_CONSTRAINTS;
+use choice::least;
 ghost use mathlib.Core.Path.{_≡_};
-ghost use mathlib.Core.Bool.{_&&_};
-ghost use Prim.Native.Nat.{_≤_, min};
-ghost use Rattle.scan.specs.Set.{mostOutputs, mostConstraints};
-ghost use Rattle.scan.specs.Constraint.{readsTrue, simple};
+ghost use Prim.Native.Nat.{_≤_};
+ghost use Rattle.scan.specs.Set.{mostOutputs};
 ghost use Rattle.scan.specs.Holds.{unheldBy, startFrom};
-ghost use Rattle.scan.specs.way.Holds.{holdsOf, limitBy};
+ghost use Rattle.scan.specs.way.Holds.{holdsBy, limitBy};
 
 // The outputs held to 0 (F0) and to 1 (F1).
 pub struct Holds {
@@ -19,27 +14,23 @@ pub struct Holds {
     pub f1: u16,
 }
 
-// Whether the constraint holds its output at the read word w.
-fn is_holding(c: Constraint, w: u32) -> bool
-    ensures { λ r. ⌜ r ≡ (simple c && readsTrue c w) ⌝ }
+// The holds of those of the first m constraints that the mask has, by the outputs that each names plain and negated: the active simple ones hold.
+pub fn hold_by<'a>(
+    plain: &'a [u16; MOST_CONSTRAINTS],
+    negated: &'a [u16; MOST_CONSTRAINTS],
+    m: usize,
+    holding: u64,
+) -> Holds
+    ensures { λ r. ⌜ r ≡ holdsBy (now (plain .entry)) (now (negated .entry)) m holding ⌝ }
 {
-    both(is_simple(c), are_reads_true(c, w))
-}
-
-// The holds of the simple constraints at the read word w.
-pub fn hold(s: Set, w: u32) -> Holds
-    requires { ⌜ s .m ≤ mostConstraints ⌝ }
-    ensures { λ r. ⌜ r ≡ holdsOf s w ⌝ }
-{
-    let m = s.m;
+    let end = least(m, MOST_CONSTRAINTS);
     let mut f0: u16 = 0;
     let mut f1: u16 = 0;
     let mut i: usize = 0;
-    while i < m {
-        let c = s.constraints[i];
-        let held = is_holding(c, w);
-        f0 = f0 | keep16(held, c.out_plain);
-        f1 = f1 | keep16(held, c.out_negated);
+    while i < end {
+        let held = words::bit64(i, holding);
+        f0 = f0 | keep16(held, plain[i]);
+        f1 = f1 | keep16(held, negated[i]);
         i = i + 1;
     }
     Holds { f0, f1 }

@@ -1,12 +1,17 @@
 // The scan part of the ranked safety filter: what a set is, and the walk at a read word. It knows nothing of files and of the verdict.
 mod pick; // choices between words as values
 mod set; // what a set and a state are made of
-mod constraint; // one constraint at a read word
+mod constraint; // one constraint
+mod columns; // the literals of the constraints, one array for each kind
+mod active; // the constraints that are active at a read word
 mod holds; // the outputs that simple constraints hold, and the start vector
 mod pass; // which outputs of a constraint yield
-mod table; // a read word's table, and a pass and safety over it
+mod table; // the table of the active constraints, and a pass and safety over it
 mod walk; // one pass after another while the vector is unsafe
 
+pub use active::active_at;
+pub use columns::Columns;
+pub use columns::columns_of;
 pub use holds::Holds;
 pub use holds::start_vector;
 pub use set::Constraint;
@@ -22,7 +27,7 @@ pub use set::Set;
 pub use set::State;
 pub use set::zero_set;
 pub use table::Table;
-pub use table::build;
+pub use table::build_by;
 pub use table::is_any_safe;
 pub use table::is_safe;
 pub use table::pass_over;

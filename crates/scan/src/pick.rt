@@ -1,4 +1,4 @@
-// Choices between words of sixteen bits as values, so that loops have no branches.
+// Choices between words as values, so that loops have no branches.
 ghost use mathlib.Core.Path.{_≡_};
 ghost use mathlib.Core.Bool.{cond};
 ghost use Prim.Native.Nat.{min};
@@ -12,6 +12,12 @@ pub fn pick16(test: bool, x: u16, y: u16) -> u16
 
 // x if the test passed, else 0.
 pub fn keep16(test: bool, x: u16) -> u16
+    ensures { λ r. ⌜ r ≡ cond test x 0 ⌝ }
+{
+    if test { x } else { 0 }
+}
+
+pub fn keep64(test: bool, x: u64) -> u64
     ensures { λ r. ⌜ r ≡ cond test x 0 ⌝ }
 {
     if test { x } else { 0 }

@@ -1,17 +1,13 @@
-// A read word's table: the holds, the most passes of a walk and, of each combined constraint whose read literals are true at the word, what it names and what it flips.
-// A pass and the test of safety go over the table and not over the set.
-use super::constraint::are_reads_true;
-use super::constraint::is_combined;
+// The table of the active constraints: the holds, the most passes of a walk and, of each active constraint that is not simple, what it names and what it flips.
+// A pass and the test of safety go over the table: they are handed no set and no read word.
 use super::holds::Holds;
-use super::holds::hold;
+use super::holds::hold_by;
 use super::holds::pass_limit;
 use super::holds::unheld_of;
 use super::pass::yielding_of;
-use super::set::Constraint;
 use super::set::MOST_CONSTRAINTS;
 use super::set::MOST_OUTPUTS;
 use super::set::Set;
-use choice::both;
 use choice::either;
 use choice::least;
 ghost use mathlib.Core.Path.{_≡_};
@@ -19,13 +15,14 @@ ghost use mathlib.Core.Bool.{cond};
 ghost use Prim.Native.Nat.{_≤_};
 ghost use lib.Dec.{eqb};
 ghost use lib.Bits.{bitAnd};
+ghost use Rattle.words.specs.Word.{without};
 ghost use Rattle.words.specs.Loop.{some};
-ghost use Rattle.scan.specs.Set.{mostOutputs, mostConstraints};
-ghost use Rattle.scan.specs.Holds.{unheld};
-ghost use Rattle.scan.specs.way.Holds.{holdsOf};
-ghost use Rattle.scan.specs.way.Table.{capped, active, tableUpto, tableOf, flipsOver, passOver, anyTrue, safeOver};
+ghost use Rattle.scan.specs.Set.{mostConstraints};
+ghost use Rattle.scan.specs.way.Holds.{holdsBy};
+ghost use Rattle.scan.specs.way.Table.{evened, tableBy, flipsOver, passOver, anyTrue, safeOver};
 
 // The entries below count: the outputs named plain, all the outputs named, and those that yield.
+// They are filled up to a multiple of sixteen with entries that are never true, so that a loop over them has no rest.
 pub struct Table {
     pub holds: Holds,
     pub limit: u16,
@@ -35,66 +32,67 @@ pub struct Table {
     pub flip: [u16; MOST_CONSTRAINTS],
 }
 
-// The set with its counts cut to the places that there are.
-fn cap(s: Set) -> Set
-    ensures { λ r. ⌜ r ≡ capped s ⌝ }
+// What no vector has at no output: an entry that names nothing and asks for this is never true.
+const NEVER: u16 = 1;
+
+// The entries that are gone over at a time.
+const LANES: usize = 16;
+
+// The next multiple of sixteen.
+fn even_up(count: usize) -> usize
+    requires { ⌜ count ≤ mostConstraints ⌝ }
+    ensures { λ r. ⌜ r ≡ evened count ⌝ }
 {
-    let n = least(s.n, MOST_OUTPUTS);
+    (count + (LANES - 1)) / LANES * LANES
+}
+
+// The table with these holds, and an entry for each constraint that the mask has.
+fn fill(s: Set, h: Holds, entered: u64) -> Table
+    ensures { λ r. ⌜ r ≡ tableBy s h entered ⌝ }
+{
     let m = least(s.m, MOST_CONSTRAINTS);
-    let mut c = s;
-    c.n = n;
-    c.m = m;
-    c
-}
-
-// Whether the constraint has an entry at the read word w.
-fn is_active(c: Constraint, w: u32) -> bool
-    ensures { λ r. ⌜ r ≡ active c w ⌝ }
-{
-    both(is_combined(c), are_reads_true(c, w))
-}
-
-// The table of a set whose counts are cut, given its holds and the mask of its unheld outputs at the read word w.
-fn fill(s: Set, w: u32, h: Holds, mask: u16) -> Table
-    requires { ⌜ (s .n ≤ mostOutputs) × (s .m ≤ mostConstraints) × (h ≡ holdsOf s w) × (mask ≡ unheld s w) ⌝ }
-    ensures { λ r. ⌜ r ≡ tableUpto s w (s .m) ⌝ }
-{
-    let m = s.m;
-    let n = s.n;
-    let mut plain = [0u16; MOST_CONSTRAINTS];
+    let n = least(s.n, MOST_OUTPUTS);
+    let unheld = unheld_of(n, h);
+    let mut plain = [NEVER; MOST_CONSTRAINTS];
     let mut named = [0u16; MOST_CONSTRAINTS];
     let mut flip = [0u16; MOST_CONSTRAINTS];
     let mut count: usize = 0;
     let mut i: usize = 0;
     while i < m {
         let c = s.constraints[i];
+        let on = words::bit64(i, entered);
         i = i + 1;
-        if is_active(c, w) {
+        if on {
             let outs = c.out_plain | c.out_negated;
             plain[count] = c.out_plain;
             named[count] = outs;
-            flip[count] = yielding_of(n, c, outs & mask);
+            flip[count] = yielding_of(n, c, outs & unheld);
             count = count + 1;
         }
     }
     Table {
         holds: h,
-        limit: pass_limit(mask),
-        count,
+        limit: pass_limit(unheld),
+        count: even_up(count),
         plain,
         named,
         flip,
     }
 }
 
-// The table of the set at the read word w.
-pub fn build(set: Set, w: u32) -> Table
-    ensures { λ r. ⌜ r ≡ tableOf set w ⌝ }
+// The table of the set where the constraints of the mask `active` are, by the outputs that each names plain and negated, and by the mask of the simple ones.
+pub fn build_by<'a>(
+    set: Set,
+    plain: &'a [u16; MOST_CONSTRAINTS],
+    negated: &'a [u16; MOST_CONSTRAINTS],
+    simple: u64,
+    active: u64,
+) -> Table
+    ensures { λ r. ⌜ r ≡ tableBy set (holdsBy (now (plain .entry)) (now (negated .entry)) (set .m) (bitAnd active simple)) (without active simple) ⌝ }
 {
-    let s = cap(set);
-    let n = s.n;
-    let h = hold(s, w);
-    fill(s, w, h, unheld_of(n, h))
+    let m = set.m;
+    let holding = active & simple;
+    fill(set, hold_by(plain, negated, m, holding), active ^ holding)
 }
 
 // What an entry flips at the vector v.

@@ -4,19 +4,22 @@
 use mathlib.Core.Path.{_≡_, refl, sym, ap, ap₂, _∙_, subst, fun-ext}
 use mathlib.Core.Bool.{Bool, true, false, cond, not}
 use mathlib.Core.List.{List}
-use Prim.Native.Nat.{ℕ, zero, suc, _+_, _^_, _<_}
+use Prim.Native.Nat.{ℕ, zero, suc, _+_, _-_, _^_, _≤_, _<_}
 use native.Mathlib.Decide.{ℕ-discrete, decLt}
 use native.Mathlib.Omega.{arith}
 use lib.Dec.{eqb}
 use lib.ListN.{length, getD, set, length-set, List·getD-eq-default}
 use lib.Seq.{getD-set-same, getD-set-other}
 use lib.Pow.{pow-pos}
-use Rattle.words.specs.Loop.{some, iterate}
+use borrow.Author.Tests.{ltb-true, ltb-false, not-true, not-false}
+use Rattle.words.specs.Loop.{some, first, iterate}
 use Rattle.words.proofs.BoolLaws.{by-test, clash}
-use Rattle.words.proofs.LoopLaws.{some-at, some-false-at, listed-long, getD-listed}
+use Rattle.words.proofs.LoopLaws.{First, first-spec, listed-long, getD-listed}
+use Rattle.words.proofs.Orbit.{iterate-add}
 use Rattle.scan.specs.declared.set.Set.{Set}
 use Rattle.scan.specs.Shape.{wellFormed}
 use Rattle.scan.specs.Constraint.{safe, hasVector}
+use Rattle.scan.specs.Active.{activeOf}
 use Rattle.scan.specs.declared.table.Table.{Table}
 use Rattle.scan.specs.Holds.{unheldCount, passLimit, startFrom, startVector}
 use Rattle.scan.specs.way.Table.{tableOf, safeIn, passIn}
@@ -27,7 +30,8 @@ use Rattle.scan.proofs.PassLaws.{pass-lt, after-lt}
 use Rattle.scan.proofs.TableLaws.{table-safe, table-pass, table-start, table-limit}
 use Rattle.scan.proofs.WalkLaws.{ReachesFrom, safe-reaches, meets-reaches, reaches-on, reaches-after, walk-due, walk-never}
 use Rattle.verdict.specs.Judge.{isNever, endless}
-use Rattle.verdict.specs.way.Marks.{marked, markOf, markedWhere, comesToMark, pathMarked, settled}
+use Rattle.verdict.specs.way.Marks.{marked, markOf, markedWhere, passesToMark, comesToMark, pathMarked, settled}
+use Rattle.verdict.proofs.MarksLaws.{markedAfter}
 
 -- a byte for each vector; a mark says that passes lead to a safe vector; every safe vector is marked
 pub record Ready (s : Set) (w : ℕ) (marks : List ℕ) : Type 0 where
@@ -87,33 +91,52 @@ module _ (s : Set) (ok : wellFormed s ≡ true) (w : ℕ) where
   unmarked-unsafe : (marks : List ℕ) → Ready s w marks → (v : ℕ) → v < 2 ^ s .n → marked marks v ≡ false → safe s w v ≡ false
   unmarked-unsafe marks ready v h e = by-test (safe s w v) (λ t. clash (ready .complete v h t) e) (λ f. f)
 
-  ready-path : (left v : ℕ) (marks : List ℕ) → Ready s w marks → v < 2 ^ s .n → ReachesFrom s w v → Ready s w (pathMarked (pass s w) left v marks)
+  -- a path of them, each below 2 ^ n and leading to a safe vector
+  ready-path : (k v : ℕ) (marks : List ℕ) → Ready s w marks
+      → ((j : ℕ) → j < k → (iterate (pass s w) j v < 2 ^ s .n) × ReachesFrom s w (iterate (pass s w) j v)) → Ready s w (pathMarked (pass s w) k v marks)
   unfolding pathMarked
-  ready-path zero v marks ready h r = ready
-  ready-path (suc left) v marks ready h r =
-      by-test (marked marks v)
-      (λ e. rw e ready)
-      (λ e. rw e (ready-path left (pass s w v) (set marks v 1) (ready-more marks v ready h r) (pass-lt s w v h)
-      (reaches-on s w v (unmarked-unsafe marks ready v h e) r)))
+  ready-path zero v marks ready all = ready
+  ready-path (suc k) v marks ready all =
+      let last = all k (omega arith) in
+      ready-more (pathMarked (pass s w) k v marks) (iterate (pass s w) k v) (ready-path k v marks ready (λ j l. all j (omega arith))) (last .0) (last .1)
+
+  -- the vectors of a walk before one that leads to a safe vector lead there too
+  reaches-before : (g i j : ℕ) → j ≤ i → ReachesFrom s w (after s w g i) → ReachesFrom s w (after s w g j)
+  unfolding after
+  reaches-before g i j l r =
+      let x = startVector s w g in
+      let e : j + (i - j) ≡ i = omega arith in (
+        (i - j) + r .0,
+        ap (safe s w)
+            (iterate-add (pass s w) (iterate (pass s w) j x) (i - j) (r .0)
+            ∙ ap (iterate (pass s w) (r .0)) (sym (iterate-add (pass s w) x j (i - j)) ∙ ap (λ (k : ℕ). iterate (pass s w) k x) e))
+            ∙ r .1,
+      )
 
   -- ---- a request
 
   module _ (marks : List ℕ) (ready : Ready s w marks) (g : ℕ) (fits : g < 2 ^ s .n) where
-    -- the vector after k passes is marked
-    abbrev markedAfter : ℕ → Bool
-    markedAfter k = marked marks (iterate (pass s w) k (startVector s w g))
+    -- the passes to the first mark
+    abbrev made : ℕ
+    made = passesToMark (pass s w) marks (passLimit s w) (startVector s w g)
+
+    made-first : First (passLimit s w + 1) (markedAfter (pass s w) marks (startVector s w g)) made
+    unfolding passesToMark
+    made-first = first-spec (passLimit s w + 1) (markedAfter (pass s w) marks (startVector s w g))
+
+    -- from there passes lead to a safe vector
+    comes-on : comesToMark (pass s w) marks (passLimit s w) (startVector s w g) ≡ true → ReachesFrom s w (after s w g made)
+    unfolding comesToMark after
+    comes-on e = ready .sound (after s w g made) (made-first .here (omega (arith, ltb-false (passLimit s w) made (not-true _ e))))
 
     comes-reaches : comesToMark (pass s w) marks (passLimit s w) (startVector s w g) ≡ true → Reaches s w g
-    unfolding comesToMark after
-    comes-reaches e =
-        let k = some-at (passLimit s w + 1) markedAfter e in
-        meets-reaches s w g (k .0) (ready .sound (after s w g (k .0)) (k .2))
+    comes-reaches e = meets-reaches s w g made (comes-on e)
 
     not-comes : comesToMark (pass s w) marks (passLimit s w) (startVector s w g) ≡ false → (k : ℕ) → k < 2 ^ unheldCount s w → safe s w (after s w g k) ≡ false
     unfolding comesToMark after
     not-comes e k h =
         unmarked-unsafe marks ready (after s w g k) (after-lt s w ok g fits k)
-        (some-false-at (passLimit s w + 1) markedAfter e k (omega (arith, pow-pos (unheldCount s w))))
+        (made-first .before k (omega (arith, pow-pos (unheldCount s w), ltb-true (passLimit s w) made (not-false _ e))))
 
     -- the walk comes to a mark exactly when it reaches a safe vector
     pub comes-endless : comesToMark (pass s w) marks (passLimit s w) (startVector s w g) ≡ not (endless s w g)
@@ -127,12 +150,13 @@ module _ (s : Set) (ok : wellFormed s ≡ true) (w : ℕ) where
     unfolding settled after
     ready-settled =
         by-test (comesToMark (pass s w) marks (passLimit s w) (startVector s w g))
-        (λ e. rw e (ready-path (passLimit s w) (startVector s w g) marks ready (start-lt s w ok g fits) (reaches-after s w g (comes-reaches e))))
+        (λ e. rw e (ready-path made (startVector s w g) marks ready
+        (λ j l. (after-lt s w ok g fits j, reaches-before g made j (omega arith) (comes-on e)))))
         (λ e. rw e ready)
 
--- ---- by the table of the read word
+-- ---- by the table of the active constraints
 
-module _ (s : Set) (ok : wellFormed s ≡ true) (w : ℕ) (t : Table) (et : t ≡ tableOf s w) where
+module _ (s : Set) (ok : wellFormed s ≡ true) (w : ℕ) (t : Table) (et : t ≡ tableOf s (activeOf s w)) where
   safe-is : safeIn t ≡ safe s w
   safe-is = fun-ext (λ v. ap (λ (x : Table). safeIn x v) et ∙ table-safe s w ok v)
 

@@ -10,7 +10,7 @@ ghost use lib.ListN.{length, set};
 ghost use Rattle.words.specs.Loop.{some};
 ghost use Rattle.scan.specs.Set.{mostOutputs};
 ghost use Rattle.scan.specs.way.Table.{safeOver, passOver};
-ghost use Rattle.verdict.specs.way.Marks.{marked, markedWhere, comesToMark, pathMarked, settled};
+ghost use Rattle.verdict.specs.way.Marks.{marked, markedWhere, passesToMark, comesToMark, pathMarked, settled};
 
 const MARK: u8 = 1;
 
@@ -67,8 +67,8 @@ pub fn mark_safe<'a>(
     any
 }
 
-// Whether one of the vectors after 0 to `limit` passes from `from` is marked.
-fn comes_to_mark<'a>(
+// The passes from `from` to the first vector that is marked; limit + 1 if none of the vectors after 0 to `limit` passes is.
+fn passes_to_mark<'a>(
     plain: &'a [u16; MOST_CONSTRAINTS],
     named: &'a [u16; MOST_CONSTRAINTS],
     flip: &'a [u16; MOST_CONSTRAINTS],
@@ -76,46 +76,48 @@ fn comes_to_mark<'a>(
     from: u16,
     limit: u16,
     marks: &[u8],
-) -> bool
-    ensures { λ r. ⌜ r ≡ comesToMark (passOver (now (plain .entry)) (now (named .entry)) (now (flip .entry)) count) (now (marks .entry)) limit from ⌝ }
+) -> u32
+    ensures { λ r. ⌜ r ≡ passesToMark (passOver (now (plain .entry)) (now (named .entry)) (now (flip .entry)) count) (now (marks .entry)) limit from ⌝ }
 {
+    let most = limit as u32;
     let mut v = from;
-    let mut made: u16 = 0;
-    while made < limit {
-        if is_marked(marks, v) {
-            return true;
+    let mut made: u32 = 0;
+    while !is_marked(marks, v) {
+        if most <= made {
+            return most + 1;
         }
         v = pass_over(plain, named, flip, count, v);
         made = made + 1;
     }
-    is_marked(marks, v)
+    made
 }
 
-// Marks the vectors from `from` on, up to one that is marked, and at most `limit` of them.
+// Marks the first `made` vectors of the path from `from`, with no look at the marks, and with one pass less than vectors.
 fn mark_path<'a>(
     plain: &'a [u16; MOST_CONSTRAINTS],
     named: &'a [u16; MOST_CONSTRAINTS],
     flip: &'a [u16; MOST_CONSTRAINTS],
     count: usize,
     from: u16,
-    limit: u16,
+    made: u32,
     marks: &mut [u8],
 )
-    ensures { λ _. ⌜ now (marks .exit) ≡ pathMarked (passOver (now (plain .entry)) (now (named .entry)) (now (flip .entry)) count) limit from (now (marks .entry)) ⌝ }
+    ensures { λ _. ⌜ now (marks .exit) ≡ pathMarked (passOver (now (plain .entry)) (now (named .entry)) (now (flip .entry)) count) made from (now (marks .entry)) ⌝ }
 {
+    if made == 0 {
+        return;
+    }
+    put_mark(marks, from);
     let mut v = from;
-    let mut made: u16 = 0;
-    while made < limit {
-        if is_marked(marks, v) {
-            return;
-        }
-        put_mark(marks, v);
+    let mut done: u32 = 1;
+    while done < made {
         v = pass_over(plain, named, flip, count, v);
-        made = made + 1;
+        put_mark(marks, v);
+        done = done + 1;
     }
 }
 
-// Whether the walk from `from` comes to a mark within `limit` passes; its path is then marked.
+// Whether the walk from `from` comes to a mark within `limit` passes; its path up to there is then marked.
 pub fn settle<'a>(
     plain: &'a [u16; MOST_CONSTRAINTS],
     named: &'a [u16; MOST_CONSTRAINTS],
@@ -128,9 +130,13 @@ pub fn settle<'a>(
     ensures { λ r. ⌜ r ≡ comesToMark (passOver (now (plain .entry)) (now (named .entry)) (now (flip .entry)) count) (now (marks .entry)) limit from ⌝ }
     ensures { λ r. ⌜ now (marks .exit) ≡ settled (passOver (now (plain .entry)) (now (named .entry)) (now (flip .entry)) count) limit from (now (marks .entry)) ⌝ }
 {
-    if comes_to_mark(plain, named, flip, count, from, limit, marks) {
-        mark_path(plain, named, flip, count, from, limit, marks);
+    if is_marked(marks, from) {
         return true;
     }
-    false
+    let made = passes_to_mark(plain, named, flip, count, from, limit, marks);
+    if (limit as u32) < made {
+        return false;
+    }
+    mark_path(plain, named, flip, count, from, made, marks);
+    true
 }

@@ -1,8 +1,13 @@
 // The verdict: whether at every read word some vector is safe and every request's walk reaches a safe one.
 use super::marks::mark_safe;
 use super::marks::settle;
+use super::seen::PLACES;
+use super::seen::is_seen;
+use super::seen::keep_seen;
 use scan::Set;
-use scan::build;
+use scan::active_at;
+use scan::build_by;
+use scan::columns_of;
 use scan::start_vector;
 use shape::well_formed;
 ghost use mathlib.Core.Path.{_≡_};
@@ -10,6 +15,7 @@ ghost use mathlib.Core.Bool.{true};
 ghost use lib.ListN.{length, drop};
 ghost use Rattle.scan.specs.Shape.{wellFormed};
 ghost use Rattle.verdict.specs.Judge.{scratchBytes, judgeWords, judgeOf, looseBytes};
+ghost use Rattle.verdict.specs.way.Left.{verdictBy};
 
 // Accepted, or why not: the first read word that fails and, where it has a safe vector, the first request whose walk never is safe.
 pub enum Verdict {
@@ -20,37 +26,10 @@ pub enum Verdict {
     NoEnd { word: u32, request: u16 },
 }
 
-// The verdict on the words of a well-formed set, with a byte of scratch for each vector.
-fn judge_words(set: Set, marks: &mut [u8]) -> Verdict
-    requires { ⌜ (wellFormed set ≡ true) × (length (now marks) ≡ scratchBytes (set .n)) ⌝ }
-    ensures { λ r. ⌜ r ≡ judgeWords set ⌝ }
+// The verdict by where the loops were left: with all words passed; at the word w, if `any` says that it has a safe vector with the request g.
+fn told_by(words: u32, any: bool, w: u32, g: u16) -> Verdict
+    ensures { λ r. ⌜ r ≡ verdictBy words any w g ⌝ }
 {
-    let words = 1u32 << set.r;
-    let requests = 1u16 << set.n;
-    let mut any = true;
-    let mut w: u32 = 0;
-    let mut g: u16 = 0;
-    'words: while w < words {
-        let t = build(set, w);
-        let holds = t.holds;
-        let f0 = holds.f0;
-        let f1 = holds.f1;
-        let limit = t.limit;
-        let count = t.count;
-        any = mark_safe(f0, f1, &t.plain, &t.named, count, &mut *marks);
-        if !any {
-            break 'words;
-        }
-        g = 0;
-        while g < requests {
-            let from = start_vector(f0, f1, g);
-            if !settle(&t.plain, &t.named, &t.flip, count, from, limit, &mut *marks) {
-                break 'words;
-            }
-            g = g + 1;
-        }
-        w = w + 1;
-    }
     if words <= w {
         return Verdict::Accepted;
     }
@@ -61,6 +40,49 @@ fn judge_words(set: Set, marks: &mut [u8]) -> Verdict
         };
     }
     Verdict::NoVector { word: w }
+}
+
+// The verdict on the words of a well-formed set, with a byte of scratch for each vector. A word at which the same constraints are active as at a good word
+// before it is good.
+fn judge_words(set: Set, marks: &mut [u8]) -> Verdict
+    requires { ⌜ (wellFormed set ≡ true) × (length (now marks) ≡ scratchBytes (set .n)) ⌝ }
+    ensures { λ r. ⌜ r ≡ judgeWords set ⌝ }
+{
+    let words = 1u32 << set.r;
+    let requests = 1u16 << set.n;
+    let m = set.m;
+    let by = columns_of(set);
+    let mut seen = [0u64; PLACES];
+    let mut any = true;
+    let mut w: u32 = 0;
+    let mut g: u16 = 0;
+    'words: while w < words {
+        let active = active_at(&by.read_plain, &by.read_named, m, w);
+        if is_seen(&seen, active) {
+            w = w + 1;
+            continue 'words;
+        }
+        let t = build_by(set, &by.out_plain, &by.out_negated, by.simple, active);
+        let f0 = t.holds.f0;
+        let f1 = t.holds.f1;
+        let limit = t.limit;
+        let count = t.count;
+        any = mark_safe(f0, f1, &t.plain, &t.named, count, &mut *marks);
+        if !any {
+            break 'words;
+        }
+        g = 0;
+        while g != requests {
+            let from = start_vector(f0, f1, g);
+            if !settle(&t.plain, &t.named, &t.flip, count, from, limit, &mut *marks) {
+                break 'words;
+            }
+            g = g + 1;
+        }
+        keep_seen(&mut seen, active);
+        w = w + 1;
+    }
+    told_by(words, any, w, g)
 }
 
 // The verdict on a set, with scratch of at least `scratchBytes n` bytes, one for each vector: of those the content afterwards is free, later bytes are untouched.

@@ -10,7 +10,7 @@ use native.Mathlib.Omega.{arith}
 use lib.Dec.{eqb, eqb·zero-suc, eqb·suc-zero, eqb·suc-suc, lit<}
 use lib.Arith.{digits-mod, lt-one}
 use lib.Pow.{shr-shr, pow-mono, pow-pos, shr-lt}
-use lib.Bits.{and-le-r, or-lt, bitAnd, bitOr, bitXor, differ, and-step, or-step, xor-step, and-shr, or-shr, xor-shr}
+use lib.Bits.{and-le-r, or-lt, bitAnd, bitOr, bitXor, differ, and-step, or-step, xor-step, and-shr, or-shr, xor-shr, and-mask}
 use borrow.Author.Tests.{eqb-true, eq-eqb, ne-eqb}
 use Rattle.words.proofs.BoolLaws.{clash, and-true, same-truth}
 use Rattle.words.specs.Word.{odd, bit, without, meets}
@@ -69,6 +69,11 @@ xor-and false b = refl
 pub bit-without : (k a b : ℕ) → bit k (without a b) ≡ bit k a && not (bit k b)
 unfolding without
 bit-without k a b = bit-xor k a (bitAnd a b) ∙ ap (xorb (bit k a)) (bit-and k a b) ∙ xor-and (bit k a) (bit k b)
+
+-- bit k as code tells it: the lowest one of the word shifted by k
+pub bit-shifted : (k w : ℕ) → eqb (bitAnd (w / 2 ^ k) 1) 1 ≡ bit k w
+unfolding bit odd
+bit-shifted k w = ap (λ (x : ℕ). eqb x 1) (and-mask (w / 2 ^ k) 1)
 
 -- a word below 2 ^ n has no bit from n on
 pub bit-above : (n k w : ℕ) → w < 2 ^ n → n ≤ k → bit k w ≡ false

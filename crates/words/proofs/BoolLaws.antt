@@ -34,6 +34,11 @@ pub and-unit : (b : Bool) → b && true ≡ b
 and-unit true = refl
 and-unit false = refl
 
+pub and-swap : (a b : Bool) → a && b ≡ b && a
+and-swap true b = sym (and-unit b)
+and-swap false true = refl
+and-swap false false = refl
+
 pub and-false : (a b : Bool) → b ≡ false → a && b ≡ false
 and-false true b e = e
 and-false false b e = refl

@@ -201,6 +201,10 @@ bit-word k n p h =
     go i q (yes e) = ap (λ (b : Bool). b && eqb k i) (ap p (sym e) ∙ q)
     go i q (no ne) = and-false (p i) (eqb k i) (ne-eqb k i ne)
 
+pub word-cong : (n : ℕ) (p q : ℕ → Bool) → ((k : ℕ) → k < n → p k ≡ q k) → word n p ≡ word n q
+unfolding word bitIf
+word-cong n p q h = gather-cong n (bitIf p) (bitIf q) (λ k l. ap (λ (b : Bool). cond b (2 ^ k) 0) (h k l))
+
 pub word-lt : (n : ℕ) (p : ℕ → Bool) → word n p < 2 ^ n
 unfolding word bitIf
 word-lt n p = gather-lt n n (bitIf p) (λ i h. small i h (p i))
@@ -223,6 +227,20 @@ pub some-bit : (n w : ℕ) → w < 2 ^ n → zero < w → (k : ℕ) × (k < n) �
 some-bit n w h p =
     by-test (some n (λ k. bit k w)) (some-at n (λ k. bit k w))
     (λ e. let z : w ≡ 0 = no-bits n w h (some-false-at n (λ k. bit k w) e) in absurd (omega arith))
+
+-- ---- what adds nothing from n on
+
+still-on : {A : Type 0} (whole : ℕ → A) (n d : ℕ) → ((k : ℕ) → n ≤ k → k < n + d → whole (k + 1) ≡ whole k) → whole (n + d) ≡ whole n
+still-on whole n zero same = ap whole (add-zero n)
+still-on whole n (suc d) same =
+    let e : n + suc d ≡ n + d + 1 = omega arith in
+    ap whole e ∙ same (n + d) (omega arith) (omega arith) ∙ still-on whole n d (λ k l h. same k l (omega arith))
+
+-- a loop whose turns from n on change nothing
+pub still : {A : Type 0} (whole : ℕ → A) (n m : ℕ) → n ≤ m → ((k : ℕ) → n ≤ k → k < m → whole (k + 1) ≡ whole k) → whole m ≡ whole n
+still whole n m l same =
+    let e : m ≡ n + (m - n) = omega arith in
+    ap whole e ∙ still-on whole n (m - n) (λ k h b. same k h (omega arith))
 
 -- ---- listed
 

@@ -12,6 +12,12 @@ pub fn bit32(k: usize, x: u32) -> bool
     if k < 32 { (x >> k) & 1 == 1 } else { false }
 }
 
+pub fn bit64(k: usize, x: u64) -> bool
+    ensures { λ r. ⌜ r ≡ bit k x ⌝ }
+{
+    if k < 64 { (x >> k) & 1 == 1 } else { false }
+}
+
 pub fn bit16(k: usize, x: u16) -> bool
     ensures { λ r. ⌜ r ≡ bit k x ⌝ }
 {

@@ -2,6 +2,7 @@
 //! it, and what there must be.
 
 use super::marks::{sorts, Pairs};
+use super::skips;
 use super::texts::LONGEST;
 use crate::answer::answer;
 use crate::file::load;
@@ -18,7 +19,7 @@ pub type Counts = BTreeMap<String, usize>;
 /// The most scans behind a state.
 pub const MOST_SCANS: usize = 681;
 
-/// What a corpus must have, and how many at least.
+/// What a corpus must have, and how many at least; `skips` has more of it.
 const NEEDED: &[(&str, usize)] = &[
     ("F cases", 5000),
     ("F ACCEPT", 1000),
@@ -195,6 +196,7 @@ pub fn missing(counts: &Counts) -> Vec<&'static str> {
     let enough = |key: &str, least: usize| counts.get(key).is_some_and(|&count| count >= least);
     NEEDED
         .iter()
+        .chain(skips::NEEDED)
         .filter(|&&(key, least)| !enough(key, least))
         .map(|&(key, _)| key)
         .collect()
@@ -309,6 +311,7 @@ fn sorts_of_case(case: &Case, answer: &str) -> Vec<String> {
             let sorts = sorts_of_file(file, scans, answer);
             let mut sorts: Vec<String> = sorts.into_iter().map(String::from).collect();
             sorts.extend(sorts_from_start(file, scans, answer));
+            sorts.extend(load(file).iter().flat_map(skips::sorts));
             sorts
         }
         Case::State { file, list } => sorts_of_list(load(file).ok(), list),

@@ -194,18 +194,29 @@ fn no_way_out(chance: &mut Chance, set: &mut Set) {
     let kinds: Vec<Kind> = set.reads.iter().map(|point| point.kind).collect();
     let value = chance.one_in(2);
     let guard = pair(chance, &kinds, value, value);
-    let at = |number: usize, negated: bool, rank: u8| Literal {
-        rank,
-        ..plain(Point::Output(number), negated)
+    let outputs: &[usize] = match set.outputs.len() {
+        1 => &[0],
+        _ => &[0, 1],
     };
-    for negated in [false, true] {
-        let outputs = match set.outputs.len() {
-            1 => vec![at(0, negated, 0)],
-            _ => vec![at(0, false, 1), at(1, negated, 0)],
-        };
-        let literals = guard.iter().copied().chain(outputs).collect();
-        set.constraints.push(Constraint { literals });
-    }
+    set.constraints.extend(stuck(&guard, outputs));
+}
+
+/// Two constraints behind a guard: one output has to be on as well as off, or,
+/// of two, the second flips for ever while the first is on.
+pub fn stuck(guard: &[Literal], outputs: &[usize]) -> Vec<Constraint> {
+    let (&flips, before) = outputs.split_last().expect("an output");
+    let constraint = |negated: bool| {
+        let first = before.iter().map(|&number| Literal {
+            rank: 1,
+            ..plain(Point::Output(number), false)
+        });
+        let last = plain(Point::Output(flips), negated);
+        let mut literals: Vec<Literal> = guard.iter().copied().chain(first).collect();
+        literals.push(last);
+        literals.sort_by_key(|literal| literal.point);
+        Constraint { literals }
+    };
+    [false, true].map(constraint).to_vec()
 }
 
 /// A few scans, up to two of them sure to be refused and first; now and then

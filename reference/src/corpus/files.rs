@@ -14,15 +14,15 @@ const REJECTED: usize = 150;
 
 /// The cases so far, and how many sets were accepted and rejected by 23.
 #[derive(Default)]
-struct Files {
-    cases: Vec<Case>,
+pub struct Files {
+    pub cases: Vec<Case>,
     accepted: usize,
     no_end: usize,
 }
 
 impl Files {
     /// Adds a file, with scans if it is an accepted set.
-    fn add(&mut self, chance: &mut Chance, file: Vec<u8>) {
+    pub fn add(&mut self, chance: &mut Chance, file: Vec<u8>) {
         let verdict = load(&file).map(|set| (judge(&set), set));
         let scans = match verdict {
             Ok((Verdict::Accepted, set)) => {

@@ -1,5 +1,6 @@
 //! What the corpus holds: its cases in order, the same for the same seed.
 
+pub mod active;
 pub mod broken;
 pub mod counters;
 pub mod counts;
@@ -9,17 +10,24 @@ pub mod files;
 pub mod long;
 pub mod marks;
 pub mod names;
+pub mod paths;
 pub mod sizes;
+pub mod skips;
 pub mod states;
 pub mod texts;
 
 use crate::chance::Chance;
 use crate::records::Case;
 
+/// The generator of a part by its number.
+fn part(seed: u64, number: u64) -> Chance {
+    Chance::new(seed.wrapping_add(number << 32))
+}
+
 /// All cases. Each part but the files has a generator of its own, so that it
 /// can change and leave the others as they are.
 pub fn corpus(seed: u64) -> Vec<Case> {
-    let part = |number: u64| Chance::new(seed.wrapping_add(number << 32));
+    let part = |number: u64| part(seed, number);
     let mut cases = examples::cases(&mut part(1));
     cases.extend(files::cases(&mut Chance::new(seed)));
     cases.extend(counters::cases(&mut part(2)));
@@ -32,5 +40,13 @@ pub fn corpus(seed: u64) -> Vec<Case> {
     cases.extend(broken::cases(&mut part(7)));
     cases.extend(states::other_marks(&cases));
     cases.extend(edges::cases(&mut part(8)));
+    cases.extend(skipping(seed));
+    cases
+}
+
+/// The two parts that show what a verdict skips wrongly.
+pub fn skipping(seed: u64) -> Vec<Case> {
+    let mut cases = active::cases(&mut part(seed, 9));
+    cases.extend(paths::cases(&mut part(seed, 10)));
     cases
 }

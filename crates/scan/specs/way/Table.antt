@@ -1,45 +1,53 @@
--- The code's way to a pass and to safety: the table of a read word, with the holds, the most passes of a walk and, of each combined constraint whose read literals are
--- true there, the outputs named plain, all the outputs named, and those that yield.
+-- The code's way to a pass and to safety: the table of the active constraints, with the holds, the most passes of a walk and, of each active constraint that is
+-- not simple, the outputs named plain, all the outputs named, and those that yield.
 -- Assumes nothing.
-use Prim.Native.Nat.{ℕ, zero, suc, _+_, min}
+use Prim.Native.Nat.{ℕ, zero, suc, _+_, _*_, _/_, min}
 use mathlib.Core.Bool.{Bool, cond, not, _&&_}
 use mathlib.Core.List.{List}
-use lib.Dec.{eqb}
 use lib.ListN.{getD, set, replicate}
 use lib.Bits.{bitAnd, bitXor}
-use Rattle.words.specs.Word.{meets}
+use Rattle.words.specs.Word.{bit, without, meets}
 use Rattle.words.specs.Loop.{gather, some}
 use Rattle.scan.specs.declared.set.Constraint.{Constraint}
 use Rattle.scan.specs.declared.set.Set.{Set}
+use Rattle.scan.specs.declared.holds.Holds.{Holds}
 use Rattle.scan.specs.declared.table.Table.{Table}
 use Rattle.scan.specs.declared.walk.Walk.{Walk}
-use Rattle.scan.specs.Set.{mostOutputs, mostConstraints, withCounts, constraint, outs}
-use Rattle.scan.specs.Constraint.{readsTrue, combined}
-use Rattle.scan.specs.Holds.{passLimit, startFrom}
-use Rattle.scan.specs.way.Holds.{holdsOf}
-use Rattle.scan.specs.Pass.{yields}
+use Rattle.scan.specs.Set.{mostOutputs, mostConstraints, constraint, outs}
+use Rattle.scan.specs.Holds.{unheldBy, startFrom}
+use Rattle.scan.specs.Pass.{yielding}
 use Rattle.scan.specs.Walk.{walkBy}
+use Rattle.scan.specs.way.Holds.{holdsBy, limitBy}
+use Rattle.scan.specs.way.Columns.{counted, columnsOf, entryTrue}
 
 -- ---- building it
 
--- the set with its counts cut to the places that there are; a well-formed set is its own
-abbrev pub capped : Set → Set
-capped s = withCounts s (s .r) (min (s .n) mostOutputs) (min (s .m) mostConstraints)
+-- the outputs that there are places for; of a well-formed set all
+abbrev pub outputsIn : Set → ℕ
+outputsIn s = min (s .n) mostOutputs
 
--- a constraint has an entry at the read word: it is combined and its read literals are true
-unfoldable pub active : Constraint → ℕ → Bool
-active c w = combined c && readsTrue c w
+-- the outputs that these holds leave
+unfoldable pub unheldIn : Set → Holds → ℕ
+unheldIn s h = unheldBy (outputsIn s) (h .f0) (h .f1)
 
--- the table with no entry yet
-abbrev pub emptyTable : Set → ℕ → Table
-emptyTable s w = record {
-  holds = holdsOf s w;
-  limit = passLimit s w;
+-- of constraint i, where these are the holds, the outputs that yield
+unfoldable pub yieldsIn : Set → Holds → ℕ → ℕ
+yieldsIn s h i = yielding (outputsIn s) (constraint s i) (bitAnd (outs (constraint s i)) (unheldIn s h))
+
+-- the table with no entry yet: every place names no output and asks for one, and so is never true
+abbrev pub emptyTable : Set → Holds → Table
+emptyTable s h = record {
+  holds = h;
+  limit = limitBy (unheldIn s h);
   count = 0;
-  plain = replicate mostConstraints 0;
+  plain = replicate mostConstraints 1;
   named = replicate mostConstraints 0;
   flip = replicate mostConstraints 0;
 }
+
+-- the table with so many entries
+abbrev pub withCount : ℕ → Table → Table
+withCount count t = record { holds = t .holds; limit = t .limit; count = count; plain = t .plain; named = t .named; flip = t .flip }
 
 -- the table with an entry more, for a constraint and the outputs of it that yield
 abbrev pub withEntry : Constraint → ℕ → Table → Table
@@ -52,20 +60,28 @@ withEntry c y t = record {
   flip = set (t .flip) (t .count) y;
 }
 
--- the table after the first i constraints
-unfoldable pub tableUpto : Set → ℕ → ℕ → Table
-tableUpto s w zero = emptyTable s w
-tableUpto s w (suc i) = let t = tableUpto s w i in cond (active (constraint s i) w) (withEntry (constraint s i) (yields s w i) t) t
+-- the table with these holds after the first i constraints, those of the mask having an entry
+unfoldable pub tableUpto : Set → Holds → ℕ → ℕ → Table
+tableUpto s h entered zero = emptyTable s h
+tableUpto s h entered (suc i) =
+    let t = tableUpto s h entered i in
+    cond (bit i entered) (withEntry (constraint s i) (yieldsIn s h i) t) t
 
--- the table of a set at a read word
+-- the next multiple of sixteen
+abbrev pub evened : ℕ → ℕ
+evened count = (count + 15) / 16 * 16
+
+-- the whole table: the entries are filled up to a multiple of sixteen with such that are never true
+unfoldable pub tableBy : Set → Holds → ℕ → Table
+tableBy s h entered = let t = tableUpto s h entered (counted s) in withCount (evened (t .count)) t
+
+-- the table of a set where the constraints of the mask are active: the simple ones of them hold, the others have an entry
 unfoldable pub tableOf : Set → ℕ → Table
-tableOf s w = tableUpto (capped s) w (capped s .m)
+tableOf s active =
+    let l = columnsOf s in
+    tableBy s (holdsBy (l .«out_plain») (l .«out_negated») (s .m) (bitAnd active (l .simple))) (without active (l .simple))
 
 -- ---- using it: a pass and safety at the vector v, over the first `count` entries
-
--- entry i is true: its outputs named are as it names them
-unfoldable pub entryTrue : List ℕ → List ℕ → ℕ → ℕ → Bool
-entryTrue plain named v i = eqb (bitAnd v (getD named i 0)) (getD plain i 0)
 
 -- what entry i flips
 unfoldable pub entryFlips : List ℕ → List ℕ → List ℕ → ℕ → ℕ → ℕ

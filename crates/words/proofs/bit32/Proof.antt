@@ -1,10 +1,6 @@
 -- `words::bit32` meets its contract. Assumes nothing.
-use mathlib.Core.Path.{ap, sym}
-use Prim.Native.Nat.{ℕ, _/_, _^_}
-use lib.Dec.{eqb}
-use lib.Bits.{and-mask}
-use Rattle.words.specs.Word.{bit, odd}
-use Rattle.words.proofs.BitLaws.{bit-above}
+use mathlib.Core.Path.{sym}
+use Rattle.words.proofs.BitLaws.{bit-shifted, bit-above}
 use borrow.Author.Needs.{needs}
 use Rattle.words.proofs.bit32.Statement.{statement}
 use Rattle.words.proofs.bit32.Tie as tie
@@ -16,8 +12,7 @@ shr-result : tie.Need-shr-result
 shr-result c = search needs
 
 returns : tie.Need-returns
-unfolding bit odd
-returns c = ap (λ (x : ℕ). eqb x 1) (and-mask (c .before .args .x / 2 ^ c .before .args .k) 1)
+returns c = bit-shifted (c .before .args .k) (c .before .args .x)
 
 returns-2 : tie.Need-returns-2
 returns-2 c = sym (bit-above 32 (c .before .args .k) (c .before .args .x) (c .before .fits .x .fits) (c .if1 .left))

@@ -6,58 +6,72 @@ use Prim.Native.Nat.{ℕ, _+_, _≤_, _-_}
 use native.Mathlib.Omega.{arith}
 use lib.ListN.{set}
 use lib.Bits.{bitAnd}
+use Rattle.words.specs.Word.{bit}
 use Rattle.scan.specs.declared.set.Set.{Set}
 use Rattle.scan.specs.declared.holds.Holds.{Holds}
 use Rattle.scan.specs.declared.table.Table.{Table}
 use Rattle.scan.specs.Set.{constraint, outs}
-use Rattle.scan.specs.Holds.{unheld, unheldCount, passLimit}
-use Rattle.scan.specs.way.Holds.{holdsOf, limitBy}
-use Rattle.scan.specs.Pass.{yielding, yields}
-use Rattle.scan.specs.way.Table.{active, withEntry, tableUpto}
+use Rattle.scan.specs.Holds.{unheldBy}
+use Rattle.scan.specs.Pass.{yielding}
+use Rattle.scan.specs.way.Holds.{limitBy}
+use Rattle.scan.specs.way.Columns.{counted}
+use Rattle.scan.specs.way.Table.{outputsIn, unheldIn, yieldsIn, withEntry, withCount, tableUpto, evened, tableBy}
 use Rattle.scan.proofs.TableLaws.{upto-none, upto-on, upto-off}
 use borrow.Author.Needs.{needs}
 use Rattle.scan.proofs.table.fill.Statement.{statement}
 use Rattle.scan.proofs.table.fill.Tie as tie
 
--- a table with these holds, pass limit and entries
+-- a table with this pass limit and these entries
 abbrev table : Holds → ℕ → ℕ → List ℕ → List ℕ → List ℕ → Table
 table h limit count plain named flip =
     record { holds = h; limit = limit; count = count; plain = plain; named = named; flip = flip }
 
--- with the set's holds
-abbrev entered : Set → ℕ → ℕ → List ℕ → List ℕ → List ℕ → Table
-entered s w = table (holdsOf s w) (passLimit s w)
+-- with the limit that its holds leave
+abbrev reached : Set → Holds → ℕ → List ℕ → List ℕ → List ℕ → Table
+reached s h = table h (limitBy (unheldIn s h))
 
-module _ (s : Set) (w i count : ℕ) (plain named flip : List ℕ) (inv : entered s w count plain named flip ≡ tableUpto s w i) where
-  -- an active constraint is entered
-  on : active (constraint s i) w ≡ true → (mask y : ℕ) → mask ≡ unheld s w
-      → y ≡ yielding (s .n) (constraint s i) (bitAnd (outs (constraint s i)) mask)
-      → entered s w (count + 1) (set plain count (constraint s i .«out_plain»)) (set named count (outs (constraint s i))) (set flip count y)
-      ≡ tableUpto s w (i + 1)
-  unfolding yields
-  on e mask y em ey =
+module _ (s : Set) (h : Holds) (entered i count : ℕ) (plain named flip : List ℕ) (inv : reached s h count plain named flip ≡ tableUpto s h entered i) where
+  -- a constraint that the mask has is entered
+  on : bit i entered ≡ true → (n unheld y : ℕ) → n ≡ outputsIn s → unheld ≡ unheldBy n (h .f0) (h .f1)
+      → y ≡ yielding n (constraint s i) (bitAnd (outs (constraint s i)) unheld)
+      → reached s h (count + 1) (set plain count (constraint s i .«out_plain»)) (set named count (outs (constraint s i))) (set flip count y)
+      ≡ tableUpto s h entered (i + 1)
+  unfolding yieldsIn unheldIn
+  on e n unheld y en eu ey =
       let c = constraint s i in
-      ap (λ (x : ℕ). entered s w (count + 1) (set plain count (c .«out_plain»)) (set named count (outs c)) (set flip count x))
-      (ey ∙ ap (λ (u : ℕ). yielding (s .n) c (bitAnd (outs c) u)) em)
-      ∙ ap (withEntry c (yields s w i)) inv
-      ∙ sym (upto-on s w i e)
+      ap (λ (x : ℕ). reached s h (count + 1) (set plain count (c .«out_plain»)) (set named count (outs c)) (set flip count x))
+      (ey ∙ (λ k. yielding (en k) c (bitAnd (outs c) ((eu ∙ ap (λ (x : ℕ). unheldBy x (h .f0) (h .f1)) en) k))))
+      ∙ ap (withEntry c (yieldsIn s h i)) inv
+      ∙ sym (upto-on s h entered i e)
 
   -- all constraints are passed
-  done : (h : Holds) (mask limit : ℕ) → h ≡ holdsOf s w → mask ≡ unheld s w → limit ≡ limitBy mask → i ≡ s .m
-      → table h limit count plain named flip ≡ tableUpto s w (s .m)
-  unfolding unheldCount
-  done h mask limit eh em el e =
-      ap₂ (λ (g : Holds) (u : ℕ). table g u count plain named flip) eh (el ∙ ap limitBy em) ∙ inv ∙ ap (tableUpto s w) e
+  done : (n unheld limit filled : ℕ) → n ≡ outputsIn s → unheld ≡ unheldBy n (h .f0) (h .f1) → limit ≡ limitBy unheld → filled ≡ evened count
+      → i ≡ counted s → table h limit filled plain named flip ≡ tableBy s h entered
+  unfolding tableBy unheldIn
+  done n unheld limit filled en eu el ef e =
+      ap₂ (λ (x k : ℕ). table h x k plain named flip) (el ∙ ap limitBy (eu ∙ ap (λ (x : ℕ). unheldBy x (h .f0) (h .f1)) en)) ef
+      ∙ ap (λ (t : Table). withCount (evened (t .count)) t) (inv ∙ ap (tableUpto s h entered) e)
 
 abbrev Inv-loop : tie.InvT-loop
-Inv-loop w h mask s m n plain₀ named₀ flip₀ count₀ i₀ plain named flip count i =
-    (i ≤ m) × (count ≤ i) × (entered s w count plain named flip ≡ tableUpto s w i)
+Inv-loop h entered s m n unheld plain₀ named₀ flip₀ count₀ i₀ plain named flip count i =
+    (i ≤ m) × (count ≤ i) × (reached s h count plain named flip ≡ tableUpto s h entered i)
 
 abbrev μ-loop : tie.MeasureT-loop
-μ-loop w h mask s m n plain₀ named₀ flip₀ count₀ i₀ plain named flip count i = m - i
+μ-loop h entered s m n unheld plain₀ named₀ flip₀ count₀ i₀ plain named flip count i = m - i
+
+least-requires : tie.Need-least-requires Inv-loop μ-loop
+least-requires c κs = search needs
+
+least-requires-2 : tie.Need-least-requires-2 Inv-loop μ-loop
+least-requires-2 c κs = search needs
+
+unheld-of-requires : tie.Need-unheld-of-requires Inv-loop μ-loop
+unheld-of-requires c κs = search needs
 
 loop-holds : tie.Need-loop-holds Inv-loop μ-loop
-loop-holds c = (omega arith, omega arith, sym (upto-none (c .args .t1) (c .args .w)))
+loop-holds c =
+    let a = c .before .before .before .args in
+    (omega arith, omega arith, sym (upto-none (a .t1) (a .h) (a .entered)))
 
 mul-c : tie.Need-mul-c Inv-loop μ-loop
 mul-c c = search needs
@@ -65,11 +79,11 @@ mul-c c = search needs
 element-copy-out-c : tie.Need-element-copy-out-c Inv-loop μ-loop
 element-copy-out-c c = search needs
 
+bit64-requires : tie.Need-bit64-requires Inv-loop μ-loop
+bit64-requires c κs = search needs
+
 add-i : tie.Need-add-i Inv-loop μ-loop
 add-i c = search needs
-
-is-active-requires : tie.Need-is-active-requires Inv-loop μ-loop
-is-active-requires c κs = search needs
 
 mul-plain : tie.Need-mul-plain Inv-loop μ-loop
 mul-plain c = search needs
@@ -102,34 +116,42 @@ loop-again : tie.Need-loop-again Inv-loop μ-loop
 unfolding constraint
 loop-again c =
     let t = c .before .before in
-    let h = t .before .before .before .before in
-    let l = h .loop in
-    let a = h .before in (
+    let b = t .before in
+    let l = b .before .before .before .loop in
+    let u = b .before .before .before .before in
+    let a = u .before .before .before .args in (
       omega arith,
       omega arith,
-      on (a .args .t1) (a .args .w) (l .i) (l .count) (l .plain) (l .named) (l .flip) (l .inv .2) (sym (t .before .is-active .ensures) ∙ t .if1 .taken)
-          (a .args .mask) (c .yielding-of .result) (a .pre .3) (c .yielding-of .ensures),
+      on (a .t1) (a .h) (a .entered) (l .i) (l .count) (l .plain) (l .named) (l .flip) (l .inv .2) (sym (b .bit64 .ensures) ∙ t .if1 .taken)
+          (u .before .least2 .result) (u .unheld-of .result) (c .yielding-of .result) (u .before .least2 .ensures) (u .unheld-of .ensures)
+          (c .yielding-of .ensures),
     )
 
 loop-less-2 : tie.Need-loop-less-2 Inv-loop μ-loop
 loop-less-2 c = search needs
 
 loop-again-2 : tie.Need-loop-again-2 Inv-loop μ-loop
-unfolding constraint
 loop-again-2 c =
-    let h = c .before .before .before .before in
-    let a = h .before .args in
-    (omega arith, omega arith, h .loop .inv .2 ∙ sym (upto-off (a .t1) (a .w) (h .loop .i) (sym (c .before .is-active .ensures) ∙ c .if1 .left)))
+    let b = c .before in
+    let l = b .before .before .before .loop in
+    let a = b .before .before .before .before .before .before .before .args in
+    (omega arith, omega arith, l .inv .2 ∙ sym (upto-off (a .t1) (a .h) (a .entered) (l .i) (sym (b .bit64 .ensures) ∙ c .if1 .left)))
 
 pass-limit-requires : tie.Need-pass-limit-requires Inv-loop μ-loop
 pass-limit-requires c κs = search needs
 
+even-up-requires : tie.Need-even-up-requires Inv-loop μ-loop
+even-up-requires c κs = search needs
+
 returns : tie.Need-returns Inv-loop μ-loop
 returns c =
-    let l = c .before .before .loop in
-    let a = c .before .before .before in
-    done (a .args .t1) (a .args .w) (l .i) (l .count) (l .plain) (l .named) (l .flip) (l .inv .2) (a .args .h) (a .args .mask) (c .pass-limit .result)
-    (a .pre .2) (a .pre .3) (c .pass-limit .ensures) (omega arith)
+    let p = c .before in
+    let l = p .before .before .loop in
+    let u = p .before .before .before in
+    let a = u .before .before .before .args in
+    done (a .t1) (a .h) (a .entered) (l .i) (l .count) (l .plain) (l .named) (l .flip) (l .inv .2)
+    (u .before .least2 .result) (u .unheld-of .result) (p .pass-limit .result) (c .even-up .result) (u .before .least2 .ensures) (u .unheld-of .ensures)
+    (p .pass-limit .ensures) (c .even-up .ensures) (omega arith)
 
 pub fill-spec : {M : Type 1} → statement M
 fill-spec =
@@ -137,11 +159,14 @@ fill-spec =
     (tie.spec
     Inv-loop
     μ-loop
+    least-requires
+    least-requires-2
+    unheld-of-requires
     loop-holds
     mul-c
     element-copy-out-c
+    bit64-requires
     add-i
-    is-active-requires
     mul-plain
     array-write-plain
     mul-named
@@ -155,4 +180,5 @@ fill-spec =
     loop-less-2
     loop-again-2
     pass-limit-requires
+    even-up-requires
     returns)

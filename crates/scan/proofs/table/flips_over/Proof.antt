@@ -4,7 +4,8 @@ use Prim.Native.Nat.{ℕ, _≤_, _-_}
 use native.Mathlib.Omega.{arith}
 use Rattle.words.specs.Loop.{gather}
 use Rattle.words.proofs.LoopTurns.{gather-none, gather-step}
-use Rattle.scan.specs.way.Table.{entryTrue, entryFlips, flipsOver}
+use Rattle.scan.specs.way.Columns.{entryTrue}
+use Rattle.scan.specs.way.Table.{entryFlips, flipsOver}
 use borrow.Author.Needs.{needs}
 use Rattle.scan.proofs.table.flips_over.Statement.{statement}
 use Rattle.scan.proofs.table.flips_over.Tie as tie

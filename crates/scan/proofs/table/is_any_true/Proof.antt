@@ -4,7 +4,8 @@ use Prim.Native.Nat.{ℕ, _≤_, _-_}
 use native.Mathlib.Omega.{arith}
 use Rattle.words.specs.Loop.{some}
 use Rattle.words.proofs.LoopTurns.{some-none, some-step}
-use Rattle.scan.specs.way.Table.{entryTrue, anyTrue}
+use Rattle.scan.specs.way.Columns.{entryTrue}
+use Rattle.scan.specs.way.Table.{anyTrue}
 use borrow.Author.Needs.{needs}
 use Rattle.scan.proofs.table.is_any_true.Statement.{statement}
 use Rattle.scan.proofs.table.is_any_true.Tie as tie

@@ -1,82 +1,85 @@
--- `verdict::marks::mark_path` meets its contract. The invariant: what is left of the path is what the whole path gives. Assumes nothing.
-use mathlib.Core.Path.{_≡_, refl, sym, ap, ap₂, _∙_}
+-- `verdict::marks::mark_path` meets its contract. The invariant: the vectors passed are marked. Assumes nothing.
+use mathlib.Core.Path.{_≡_, refl, sym, ap, _∙_}
 use mathlib.Core.List.{List}
 use Prim.Native.Nat.{ℕ, _+_, _≤_, _-_}
-use native.Mathlib.Nat.{sub-zero}
 use native.Mathlib.Omega.{arith}
-use lib.ListN.{length, length-set}
+use lib.ListN.{length, set, length-set}
+use Rattle.words.specs.Loop.{iterate}
 use Rattle.scan.specs.way.Table.{passOver}
 use Rattle.verdict.specs.way.Marks.{pathMarked}
-use Rattle.verdict.proofs.MarksLaws.{path-stop, path-on, path-end}
+use Rattle.verdict.proofs.MarksLaws.{pass-more, path-none, path-more}
 use borrow.Author.Needs.{needs}
 use Rattle.verdict.proofs.marks.mark_path.Statement.{statement}
 use Rattle.verdict.proofs.marks.mark_path.Tie as tie
 
 abbrev Inv-loop : tie.InvT-loop
-Inv-loop plain named flip count from limit marks₀ v₀ made₀ marks v made =
-    (made ≤ limit) × (length marks ≡ length marks₀)
-    × (pathMarked (passOver plain named flip count) (limit - made) v marks ≡ pathMarked (passOver plain named flip count) limit from marks₀)
+Inv-loop plain named flip count from made marks₀ v₀ done₀ marks v done = (1 ≤ done) × (done ≤ made) × (length marks ≡ length marks₀) × (v ≡ iterate (passOver plain named flip count) (done - 1) from)
+    × ((before : List ℕ) → marks₀ ≡ set before from 1 → marks ≡ pathMarked (passOver plain named flip count) done from before)
 
 abbrev μ-loop : tie.MeasureT-loop
-μ-loop plain named flip count from limit marks₀ v₀ made₀ marks v made = limit - made
+μ-loop plain named flip count from made marks₀ v₀ done₀ marks v done = made - done
 
 -- the pass of a call
 module _ (c : tie.Start Inv-loop μ-loop) where
   abbrev next : ℕ → ℕ
   next = passOver (c .args .plain .now) (c .args .named .now) (c .args .flip .now) (c .args .count)
 
-loop-holds : tie.Need-loop-holds Inv-loop μ-loop
-loop-holds c =
-    let s = c .before in
-    (omega arith, refl, ap (λ (k : ℕ). pathMarked (next s) k (s .args .from) (s .args .marks .now)) (sub-zero (s .args .limit)))
-
-is-marked-requires : tie.Need-is-marked-requires Inv-loop μ-loop
-is-marked-requires c κs = search needs
-
-same-length : tie.Need-same-length Inv-loop μ-loop
-same-length c = c .before .before .before .before .loop .inv .1
-
 returns : tie.Need-returns Inv-loop μ-loop
 returns c =
-    let m = c .before in
-    let l = m .before .before .before in
-    let s = l .before .before in
-    path-stop (next s) (s .args .limit - l .loop .made) (l .loop .v) (l .loop .marks) (sym (m .is-marked .ensures) ∙ c .if1 .taken) ∙ l .loop .inv .2
+    let s = c .before .before in
+    path-none (next s) (s .args .from) (s .args .marks .now) (s .args .made) (omega arith)
 
 put-mark-requires : tie.Need-put-mark-requires Inv-loop μ-loop
 put-mark-requires c κs = search needs
 
+loop-holds : tie.Need-loop-holds Inv-loop μ-loop
+unfolding iterate
+loop-holds c =
+    let s = c .before .before .before .before .before .before in
+    (omega arith, omega arith, refl, refl, λ before e. e ∙ path-more (next s) (s .args .from) before 0 (s .args .from) before (path-none (next s) (s .args .from) before 0 refl) refl)
+
 pass-over-requires : tie.Need-pass-over-requires Inv-loop μ-loop
 pass-over-requires c κs = search needs
 
-add-made : tie.Need-add-made Inv-loop μ-loop
-add-made c = search needs
+put-mark-requires-2 : tie.Need-put-mark-requires-2 Inv-loop μ-loop
+put-mark-requires-2 c κs = search needs
+
+add-done : tie.Need-add-done Inv-loop μ-loop
+add-done c = search needs
 
 loop-less : tie.Need-loop-less Inv-loop μ-loop
 loop-less c = search needs
 
 loop-again : tie.Need-loop-again Inv-loop μ-loop
 loop-again c =
-    let p = c .before .before .before in
-    let e = p .before .before in
-    let m = e .before in
-    let l = m .before .before .before in
-    let s = l .before .before in (
+    let m = c .before .before in
+    let p = m .before .before in
+    let l = p .before .before in
+    let s = l .before .before .before .before .before .before .before in
+    let on : l .loop .done - 1 + 1 ≡ l .loop .done = omega arith in
+    let off : l .loop .done + 1 - 1 ≡ l .loop .done = omega arith in
+    let there = pass-more (next s) (s .args .from) (l .loop .done - 1) (l .loop .v) (p .pass-over .result) (l .loop .inv .3) (p .pass-over .ensures)
+    ∙ ap (λ (k : ℕ). iterate (next s) k (s .args .from)) on in (
       omega arith,
-      ap length (p .put-mark .ensures) ∙ length-set (l .loop .marks) (l .loop .v) 1 ∙ l .loop .inv .1,
-      ap₂ (λ (x : ℕ) (k : List ℕ). pathMarked (next s) (s .args .limit - (l .loop .made + 1)) x k) (c .pass-over .ensures) (p .put-mark .ensures)
-          ∙ sym (path-on (next s) (s .args .limit) (l .loop .made) (l .loop .v) (l .loop .marks) (omega arith) (sym (m .is-marked .ensures) ∙ e .if1 .left))
-          ∙ l .loop .inv .2,
+      omega arith,
+      ap length (m .put-mark2 .ensures) ∙ length-set (l .loop .marks) (p .pass-over .result) 1 ∙ l .loop .inv .2,
+      there ∙ ap (λ (k : ℕ). iterate (next s) k (s .args .from)) (sym off),
+      λ before e. m .put-mark2 .ensures ∙ path-more (next s) (s .args .from) before (l .loop .done) (p .pass-over .result) (l .loop .marks) (l .loop .inv .4 before e) there,
     )
 
-same-length-2 : tie.Need-same-length-2 Inv-loop μ-loop
-same-length-2 c = c .before .loop .inv .1
+same-length : tie.Need-same-length Inv-loop μ-loop
+same-length c =
+    let l = c .before in
+    let q = l .before .before .before in
+    l .loop .inv .2 ∙ ap length (q .put-mark .ensures) ∙ length-set (q .before .before .before .before .args .marks .now) _ 1
 
 returns-2 : tie.Need-returns-2 Inv-loop μ-loop
 returns-2 c =
     let l = c .before in
-    let s = l .before .before in
-    path-end (next s) (s .args .limit - l .loop .made) (l .loop .v) (l .loop .marks) (omega arith) ∙ l .loop .inv .2
+    let q = l .before .before .before in
+    let s = q .before .before .before .before in
+    let all : l .loop .done ≡ s .args .made = omega arith in
+    l .loop .inv .4 (s .args .marks .now) (q .put-mark .ensures) ∙ ap (λ (k : ℕ). pathMarked (next s) k (s .args .from) (s .args .marks .now)) all
 
 pub mark-path-spec : {M : Type 1} → statement M
 mark-path-spec =
@@ -84,14 +87,13 @@ mark-path-spec =
     (tie.spec
     Inv-loop
     μ-loop
-    loop-holds
-    is-marked-requires
-    same-length
     returns
     put-mark-requires
+    loop-holds
     pass-over-requires
-    add-made
+    put-mark-requires-2
+    add-done
     loop-less
     loop-again
-    same-length-2
+    same-length
     returns-2)

@@ -1,44 +1,57 @@
--- `verdict::verdict::judge_words` meets its contract. The invariants: no word passed fails; at a word the marks are right, and the walk of no
--- request passed is endless. The loops are left by label where the word has no safe vector, or the request's walk is endless.
+-- `verdict::verdict::judge_words` meets its contract. The invariants: no word passed fails, and every mask kept is one of good words; at a word the marks are
+-- right, and the walk of no request passed is endless. The loops are left by label where the word has no safe vector, or the request's walk is endless.
 -- Assumes nothing.
 use mathlib.Core.Path.{_≡_, sym, ap, _∙_, subst}
 use mathlib.Core.Logic.{⊎-elim}
-use mathlib.Core.Bool.{true, false, not}
+use mathlib.Core.Bool.{Bool, true, false, not}
 use Prim.Native.Nat.{ℕ, _-_, _^_, _≤_, _<_}
 use native.Mathlib.Omega.{arith}
 use lib.ListN.{length}
+use lib.Bits.{bitAnd}
 use lib.Pow.{pow-mono}
-use borrow.Author.Tests.{not-true, not-false}
+use borrow.Author.Tests.{not-true, not-false, le-leb, lt-leb}
+use Rattle.words.specs.Word.{without}
 use Rattle.words.specs.Loop.{some}
-use Rattle.words.proofs.BoolLaws.{clash}
 use Rattle.words.proofs.LoopLaws.{some-false-at}
 use Rattle.words.proofs.ShiftLaws.{one-shl}
 use Rattle.words.proofs.LoopTurns.{some-none, some-miss}
 use Rattle.scan.specs.declared.set.Set.{Set}
+use Rattle.scan.specs.declared.table.Table.{Table}
 use Rattle.scan.specs.Set.{mostReads, mostOutputs}
 use Rattle.scan.specs.Shape.{wellFormed}
-use Rattle.scan.proofs.ShapeLaws.{counts}
 use Rattle.scan.specs.Constraint.{hasVector}
-use Rattle.verdict.specs.Judge.{endless, fails}
+use Rattle.scan.specs.Active.{activeOf}
+use Rattle.scan.specs.way.Columns.{activeBy}
+use Rattle.scan.specs.way.Holds.{holdsBy}
+use Rattle.scan.specs.way.Table.{tableBy, tableOf}
+use Rattle.scan.proofs.ShapeLaws.{counts}
+use Rattle.scan.proofs.ActiveLaws.{made-active}
+use Rattle.scan.proofs.TableLaws.{made-table}
+use Rattle.verdict.specs.declared.verdict.Verdict.{Verdict}
+use Rattle.verdict.specs.declared.verdict.Verdict.the-variants.{Accepted, NoVector, NoEnd}
+use Rattle.verdict.specs.Judge.{endless, fails, judgeWords}
+use Rattle.verdict.specs.way.Left.{verdictBy}
 use Rattle.verdict.proofs.JudgeLaws.{scratch-is}
 use Rattle.verdict.proofs.MeaningLaws.{judge-accepted, judge-no-vector, judge-no-end, passes}
 use Rattle.verdict.proofs.WordMarks.{Ready, marked-safe, settled-request}
+use Rattle.verdict.proofs.SeenLaws.{Known, known-none, known-hit, known-more}
 use borrow.Author.Needs.{needs}
 use Rattle.verdict.proofs.verdict.judge_words.Statement.{statement}
 use Rattle.verdict.proofs.verdict.judge_words.Tie as tie
 
 abbrev Inv-loop : tie.InvT-loop
-Inv-loop set marks₀ words requests any w g₀ t f0 f1 limit count marks g = (g ≤ requests) × Ready set w marks × (some g (endless set w) ≡ false)
+Inv-loop set marks₀ words requests m l seen any w g₀ active t f0 f1 limit count marks g =
+    (g ≤ requests) × Ready set w marks × (some g (endless set w) ≡ false)
 
 abbrev μ-loop : tie.MeasureT-loop
-μ-loop set marks₀ words requests any w g₀ t f0 f1 limit count marks g = requests - g
+μ-loop set marks₀ words requests m l seen any w g₀ active t f0 f1 limit count marks g = requests - g
 
 abbrev Inv-words : tie.InvT-words
-Inv-words set marks₀ words requests any₀ w₀ g₀ marks any w g =
-    (words ≡ 2 ^ set .r) × (requests ≡ 2 ^ set .n) × (w ≤ words) × (length marks ≡ 2 ^ set .n) × (some w (fails set) ≡ false)
+Inv-words set marks₀ words requests m l seen₀ any₀ w₀ g₀ marks seen any w g =
+    (words ≡ 2 ^ set .r) × (requests ≡ 2 ^ set .n) × (w ≤ words) × (length marks ≡ 2 ^ set .n) × (some w (fails set) ≡ false) × Known set seen
 
 abbrev μ-words : tie.MeasureT-words
-μ-words set marks₀ words requests any₀ w₀ g₀ marks any w g = words - w
+μ-words set marks₀ words requests m l seen₀ any₀ w₀ g₀ marks seen any w g = words - w
 
 few : (c : tie.Start Inv-loop μ-loop Inv-words μ-words) → (c .args .set .r ≤ mostReads) × (c .args .set .n ≤ mostOutputs)
 few c = let n = counts (c .args .set) (c .pre .0) in (n .r-le, n .n-le)
@@ -55,44 +68,126 @@ cast-requests c = omega (arith, few (c .before .before .before))
 shl-requests : tie.Need-shl-requests Inv-loop μ-loop Inv-words μ-words
 shl-requests c = omega (arith, few (c .before .before .before))
 
+columns-of-requires : tie.Need-columns-of-requires Inv-loop μ-loop Inv-words μ-words
+columns-of-requires c κs = search needs
+
 words-holds : tie.Need-words-holds Inv-loop μ-loop Inv-words μ-words
 words-holds c =
-    let s = c .before .before .before in
-    let f = few s in
-    (one-shl 32 (s .args .set .r) (omega (arith, f)), one-shl 16 (s .args .set .n) (omega (arith, f)), omega arith, s .pre .1 ∙ scratch-is (s .args .set .n), some-none _)
+    let s = c .before .before .before .before in
+    let f = few s in (
+      one-shl 32 (s .args .set .r) (omega (arith, f)),
+      one-shl 16 (s .args .set .n) (omega (arith, f)),
+      omega arith,
+      s .pre .1 ∙ scratch-is (s .args .set .n),
+      some-none _,
+      known-none (s .args .set) (s .pre .0),
+    )
 
-build-requires : tie.Need-build-requires Inv-loop μ-loop Inv-words μ-words
-build-requires c κs = search needs
+active-at-requires : tie.Need-active-at-requires Inv-loop μ-loop Inv-words μ-words
+active-at-requires c κs = search needs
 
-mark-safe-requires : tie.Need-mark-safe-requires Inv-loop μ-loop Inv-words μ-words
-mark-safe-requires c κs =
-    let o = c .before .before .before .before .before .before .before in
-    let s = o .before .before .before .before in
-    omega (arith, o .words .inv .3, pow-mono {i = s .args .set .n} {j = mostOutputs} (few s .1))
+is-seen-requires : tie.Need-is-seen-requires Inv-loop μ-loop Inv-words μ-words
+is-seen-requires c κs = search needs
 
--- ---- the places: a word, its table, the request
+-- ---- the places: a word, its active constraints, its table, the request
 
 -- the set, and that it is well formed
 module _ (o : tie.At-words Inv-loop μ-loop Inv-words μ-words) where
+  abbrev start : tie.Start Inv-loop μ-loop Inv-words μ-words
+  start = o .before .before .before .before .before
+
   abbrev set : Set
-  set = o .before .before .before .before .args .set
+  set = start .args .set
 
   formed : wellFormed set ≡ true
-  formed = o .before .before .before .before .pre .0
+  formed = start .pre .0
+
+  -- no word before this one fails
+  before : (u : ℕ) → u < o .words .w → fails set u ≡ false
+  before = some-false-at (o .words .w) (fails set) (o .words .inv .4)
+
+  -- what the code makes of the literals and the word is the mask of its active constraints
+  mask-told : (active : ℕ)
+      → active ≡ activeBy (o .before .columns-of .result .«read_plain») (o .before .columns-of .result .«read_named») (set .m) (o .words .w)
+      → active ≡ activeOf set (o .words .w)
+  mask-told active e = made-active set formed (o .words .w) (o .before .columns-of .result) (o .before .columns-of .ensures) active e
+
+  -- and what it makes of the mask is the word's table
+  table-told : (active : ℕ)
+      → active ≡ activeBy (o .before .columns-of .result .«read_plain») (o .before .columns-of .result .«read_named») (set .m) (o .words .w)
+      → (t : Table)
+      → t ≡ tableBy set
+      (holdsBy (o .before .columns-of .result .«out_plain») (o .before .columns-of .result .«out_negated») (set .m) (bitAnd active (o .before .columns-of .result .simple)))
+      (without active (o .before .columns-of .result .simple))
+      → t ≡ tableOf set (activeOf set (o .words .w))
+  table-told active ea t et =
+      made-table set (o .before .columns-of .result) (o .before .columns-of .ensures) active t et ∙ ap (tableOf set) (mask-told active ea)
+
+-- the word whose active constraints were looked up
+module _ (a : tie.After-active-at Inv-loop μ-loop Inv-words μ-words) where
+  abbrev at : tie.At-words Inv-loop μ-loop Inv-words μ-words
+  at = a .before .before .before .before .before
+
+  active-told : a .active-at .result ≡ activeOf (set at) (at .words .w)
+  active-told = mask-told at (a .active-at .result) (a .active-at .ensures)
+
+  next-fits : at .words .w < 2 ^ set at .r → at .words .w < 2 ^ mostReads
+  next-fits h = omega (arith, h, pow-mono {i = set at .r} {j = mostReads} (few (start at) .0))
+
+-- ---- a word whose mask is kept is passed
+
+add-w : tie.Need-add-w Inv-loop μ-loop Inv-words μ-words
+add-w c =
+    let a = c .before .before .before in
+    omega (arith, next-fits a (omega (arith, at a .words .inv .0, a .before .before .before .before .words-test .taken)))
+
+words-less : tie.Need-words-less Inv-loop μ-loop Inv-words μ-words
+words-less c = search needs
+
+words-again : tie.Need-words-again Inv-loop μ-loop Inv-words μ-words
+words-again c =
+    let i = c .before in
+    let a = i .before .before in
+    let o = at a in (
+      o .words .inv .0,
+      o .words .inv .1,
+      omega arith,
+      o .words .inv .3,
+      some-miss _ (o .words .w) (o .words .inv .4)
+          (known-hit (set o) (formed o) (o .words .seen) (o .words .inv .5) (o .words .w) (a .active-at .result) (active-told a)
+          (sym (i .is-seen .ensures) ∙ c .if1 .taken)),
+      o .words .inv .5,
+    )
+
+-- ---- any other is judged
+
+build-by-requires : tie.Need-build-by-requires Inv-loop μ-loop Inv-words μ-words
+build-by-requires c κs = search needs
 
 -- the word at which the safe vectors were marked, and its table
 module _ (m : tie.After-mark-safe Inv-loop μ-loop Inv-words μ-words) where
-  abbrev word : tie.At-words Inv-loop μ-loop Inv-words μ-words
-  word = m .before .before .before .before .before .before .before .before
+  abbrev built : tie.After-build-by Inv-loop μ-loop Inv-words μ-words
+  built = m .before .before .before .before .before
 
-  abbrev built : tie.After-build Inv-loop μ-loop Inv-words μ-words
-  built = m .before .before .before .before .before .before
+  abbrev looked : tie.After-active-at Inv-loop μ-loop Inv-words μ-words
+  looked = built .before .before .before .before .before .before .before
+
+  abbrev word : tie.At-words Inv-loop μ-loop Inv-words μ-words
+  word = at looked
+
+  built-told : built .build-by .result ≡ tableOf (set word) (activeOf (set word) (word .words .w))
+  built-told = table-told word (looked .active-at .result) (looked .active-at .ensures) (built .build-by .result) (built .build-by .ensures)
 
   -- what marking them tells of the word
   any-told : m .mark-safe .result ≡ hasVector (set word) (word .words .w)
   any-told =
-      marked-safe (set word) (formed word) (word .words .w) (built .build .result) (built .build .ensures) (length (word .words .marks))
+      marked-safe (set word) (formed word) (word .words .w) (built .build-by .result) built-told (length (word .words .marks))
       (m .mark-safe .result) _ (word .words .inv .3) (m .mark-safe .ensures .0) (m .mark-safe .ensures .1) .0
+
+mark-safe-requires : tie.Need-mark-safe-requires Inv-loop μ-loop Inv-words μ-words
+mark-safe-requires c κs =
+    let o = at (c .before .before .before .before .before .before .before .before .before .before .before) in
+    omega (arith, o .words .inv .3, pow-mono {i = set o .n} {j = mostOutputs} (few (start o) .1))
 
 -- the request at which a walk was settled
 module _ (q : tie.After-settle Inv-loop μ-loop Inv-words μ-words) where
@@ -108,7 +203,7 @@ module _ (q : tie.After-settle Inv-loop μ-loop Inv-words μ-words) where
   -- what settling it tells of the request
   end-told : q .settle .result ≡ not (endless (set (word safes)) (word safes .words .w) (request .loop .g))
   end-told =
-      settled-request (set (word safes)) (formed (word safes)) (word safes .words .w) (built safes .build .result) (built safes .build .ensures)
+      settled-request (set (word safes)) (formed (word safes)) (word safes .words .w) (built safes .build-by .result) (built-told safes)
       (request .loop .marks) (request .loop .inv .1) (request .loop .g) fits
       (q .before .before .before .before .before .before .start-vector .result) (q .before .before .before .before .before .before .start-vector .ensures)
       (q .settle .result) _ (q .settle .ensures .0) (q .settle .ensures .1) .0
@@ -117,7 +212,7 @@ loop-holds : tie.Need-loop-holds Inv-loop μ-loop Inv-words μ-words
 loop-holds c =
     let m = c .before .before .before in
     let o = word m in
-    let told = marked-safe (set o) (formed o) (o .words .w) (built m .build .result) (built m .build .ensures) (length (o .words .marks))
+    let told = marked-safe (set o) (formed o) (o .words .w) (built m .build-by .result) (built-told m) (length (o .words .marks))
     (m .mark-safe .result) _ (o .words .inv .3) (m .mark-safe .ensures .0) (m .mark-safe .ensures .1) in
     (omega arith, told .1, some-none _)
 
@@ -130,7 +225,7 @@ settle-requires c κs = search needs
 add-g : tie.Need-add-g Inv-loop μ-loop Inv-words μ-words
 add-g c =
     let q = c .before .before .before in
-    omega (arith, fits q, pow-mono {i = set (word (safes q)) .n} {j = mostOutputs} (few (word (safes q) .before .before .before .before) .1))
+    omega (arith, fits q, pow-mono {i = set (word (safes q)) .n} {j = mostOutputs} (few (start (word (safes q))) .1))
 
 loop-less : tie.Need-loop-less Inv-loop μ-loop Inv-words μ-words
 loop-less c = search needs
@@ -141,38 +236,51 @@ loop-again c =
     let l = request q in
     let m = safes q in
     let o = word m in
-    let told = settled-request (set o) (formed o) (o .words .w) (built m .build .result) (built m .build .ensures)
+    let told = settled-request (set o) (formed o) (o .words .w) (built m .build-by .result) (built-told m)
     (l .loop .marks) (l .loop .inv .1) (l .loop .g) (fits q)
     (q .before .before .before .before .before .before .start-vector .result) (q .before .before .before .before .before .before .start-vector .ensures)
     (q .settle .result) _ (q .settle .ensures .0) (q .settle .ensures .1) in
-    (omega (arith, q .before .before .before .before .before .before .before .loop-test .taken), told .1, some-miss _ (l .loop .g) (l .loop .inv .2) (not-true _ (sym (end-told q) ∙ not-false _ (c .if2 .left))))
+    (omega (arith, q .before .before .before .before .before .before .before .loop-test .taken), told .1, some-miss _ (l .loop .g) (l .loop .inv .2) (not-true _ (sym (end-told q) ∙ not-false _ (c .if3 .left))))
 
-add-w : tie.Need-add-w Inv-loop μ-loop Inv-words μ-words
-add-w c =
-    let o = word (c .before .before .before .before .before) in
-    omega (
-      arith,
-      o .words .inv .0,
-      c .before .before .before .before .before .before .before .before .before .before .before .before .words-test .taken,
-      pow-mono {i = set o .r} {j = mostReads} (few (o .before .before .before .before) .0),
-    )
+keep-seen-requires : tie.Need-keep-seen-requires Inv-loop μ-loop Inv-words μ-words
+keep-seen-requires c κs = search needs
 
-words-less : tie.Need-words-less Inv-loop μ-loop Inv-words μ-words
-words-less c = search needs
+-- the word whose requests were all settled is good
+module _ (k : tie.After-keep-seen Inv-loop μ-loop Inv-words μ-words) where
+  abbrev last : tie.At-loop Inv-loop μ-loop Inv-words μ-words
+  last = k .before .before .before
 
-words-again : tie.Need-words-again Inv-loop μ-loop Inv-words μ-words
-words-again c =
-    let e = c .before .before in
-    let m = e .before .before .before in
-    let o = word m in
-    let all : c .before .loop .g ≡ 2 ^ set o .n = omega (arith, o .words .inv .1) in (
+  abbrev marked : tie.After-mark-safe Inv-loop μ-loop Inv-words μ-words
+  marked = last .before .before .before .before
+
+  abbrev judged : tie.At-words Inv-loop μ-loop Inv-words μ-words
+  judged = word marked
+
+  passed : fails (set judged) (judged .words .w) ≡ false
+  passed =
+      let all : last .loop .g ≡ 2 ^ set judged .n = omega (arith, judged .words .inv .1, k .before .before .loop-test .left) in
+      passes (set judged) (judged .words .w) (sym (any-told marked) ∙ not-false _ (last .before .if2 .left))
+      (some-false-at (2 ^ set judged .n) (endless (set judged) (judged .words .w))
+      (ap (λ (j : ℕ). some j (endless (set judged) (judged .words .w))) (sym all) ∙ last .loop .inv .2))
+
+add-w-2 : tie.Need-add-w-2 Inv-loop μ-loop Inv-words μ-words
+add-w-2 c =
+    let a = looked (marked c) in
+    omega (arith, next-fits a (omega (arith, at a .words .inv .0, a .before .before .before .before .words-test .taken)))
+
+words-less-2 : tie.Need-words-less-2 Inv-loop μ-loop Inv-words μ-words
+words-less-2 c = omega (arith, looked (marked c) .before .before .before .before .words-test .taken)
+
+words-again-2 : tie.Need-words-again-2 Inv-loop μ-loop Inv-words μ-words
+words-again-2 c =
+    let o = judged c in
+    let a = looked (marked c) in (
       o .words .inv .0,
       o .words .inv .1,
       omega arith,
-      c .before .loop .inv .1 .long,
-      some-miss _ (o .words .w) (o .words .inv .4)
-          (passes (set o) (o .words .w) (sym (any-told m) ∙ not-false _ (e .if1 .left))
-          (some-false-at (2 ^ set o .n) (endless (set o) (o .words .w)) (ap (λ (k : ℕ). some k (endless (set o) (o .words .w))) (sym all) ∙ c .before .loop .inv .2))),
+      last c .loop .inv .1 .long,
+      some-miss _ (o .words .w) (o .words .inv .4) (passed c),
+      known-more (set o) (formed o) (o .words .seen) (o .words .inv .5) (o .words .w) (a .active-at .result) (active-told a) (passed c) _ (c .keep-seen .ensures),
     )
 
 -- ---- where the loops were left
@@ -181,8 +289,8 @@ words-again c =
 by-way {ℓ} : {C : Type ℓ} (c : tie.Left-words Inv-loop μ-loop Inv-words μ-words)
     → let o = c .before in
     (length (c .words-test .marks) ≡ 2 ^ set o .n → 2 ^ set o .r ≤ o .words .w → C)
-    → (length (c .words-test .marks) ≡ 2 ^ set o .n → c .words-test .any ≡ false → hasVector (set o) (o .words .w) ≡ false → C)
-    → (length (c .words-test .marks) ≡ 2 ^ set o .n → c .words-test .any ≡ true → hasVector (set o) (o .words .w) ≡ true
+    → (length (c .words-test .marks) ≡ 2 ^ set o .n → o .words .w < 2 ^ set o .r → c .words-test .any ≡ false → hasVector (set o) (o .words .w) ≡ false → C)
+    → (length (c .words-test .marks) ≡ 2 ^ set o .n → o .words .w < 2 ^ set o .r → c .words-test .any ≡ true → hasVector (set o) (o .words .w) ≡ true
     → c .words-test .g < 2 ^ set o .n → some (c .words-test .g) (endless (set o) (o .words .w)) ≡ false
     → endless (set o) (o .words .w) (c .words-test .g) ≡ true → C)
     → C
@@ -192,61 +300,62 @@ by-way c all none never =
     (λ x. all (ap length (x .1) ∙ o .words .inv .3) (omega (arith, o .words .inv .0, x .0 .left)))
     (⊎-elim
     (λ x.
-    let told = marked-safe (set o) (formed o) (o .words .w) (x .1 .result) (x .1 .ensures) (length (o .words .marks))
-    (x .7 .result) _ (o .words .inv .3) (x .7 .ensures .0) (x .7 .ensures .1) in
-    let off = not-true _ (x .10 .taken) in
-    none (ap length (x .11) ∙ told .1 .long) (x .12 ∙ off) (sym (told .0) ∙ off))
+    let table = table-told o (x .4 .result) (x .4 .ensures) (x .11 .result) (x .11 .ensures) in
+    let told = marked-safe (set o) (formed o) (o .words .w) (x .11 .result) table (length (o .words .marks))
+    (x .16 .result) _ (o .words .inv .3) (x .16 .ensures .0) (x .16 .ensures .1) in
+    let off = not-true _ (x .19 .taken) in
+    none (ap length (x .20) ∙ told .1 .long) (omega (arith, o .words .inv .0, x .0 .taken)) (x .21 ∙ off) (sym (told .0) ∙ off))
     (λ x.
-    let told = marked-safe (set o) (formed o) (o .words .w) (x .1 .result) (x .1 .ensures) (length (o .words .marks))
-    (x .7 .result) _ (o .words .inv .3) (x .7 .ensures .0) (x .7 .ensures .1) in
-    let on = not-false _ (x .10 .left) in
-    let below : x .11 .g < 2 ^ set o .n = omega (arith, o .words .inv .1, x .12 .taken) in
-    let ended = settled-request (set o) (formed o) (o .words .w) (x .1 .result) (x .1 .ensures) (x .11 .marks) (x .11 .inv .1) (x .11 .g) below
-    (x .13 .result) (x .13 .ensures) (x .19 .result) _ (x .19 .ensures .0) (x .19 .ensures .1) in
-    let off = not-true _ (x .22 .taken) in
-    never (ap length (x .23) ∙ ended .1 .long) (x .24 ∙ on) (sym (told .0) ∙ on)
-    (subst (λ (k : ℕ). k < 2 ^ set o .n) (sym (x .25)) below)
-    (subst (λ (k : ℕ). some k (endless (set o) (o .words .w)) ≡ false) (sym (x .25)) (x .11 .inv .2))
-    (ap (endless (set o) (o .words .w)) (x .25) ∙ not-false _ (sym (ended .0) ∙ off))))
+    let table = table-told o (x .4 .result) (x .4 .ensures) (x .11 .result) (x .11 .ensures) in
+    let told = marked-safe (set o) (formed o) (o .words .w) (x .11 .result) table (length (o .words .marks))
+    (x .16 .result) _ (o .words .inv .3) (x .16 .ensures .0) (x .16 .ensures .1) in
+    let on = not-false _ (x .19 .left) in
+    let below : x .20 .g < 2 ^ set o .n = omega (arith, o .words .inv .1, x .21 .taken) in
+    let ended = settled-request (set o) (formed o) (o .words .w) (x .11 .result) table (x .20 .marks) (x .20 .inv .1) (x .20 .g) below
+    (x .22 .result) (x .22 .ensures) (x .28 .result) _ (x .28 .ensures .0) (x .28 .ensures .1) in
+    let off = not-true _ (x .31 .taken) in
+    never (ap length (x .32) ∙ ended .1 .long) (omega (arith, o .words .inv .0, x .0 .taken)) (x .33 ∙ on) (sym (told .0) ∙ on)
+    (subst (λ (k : ℕ). k < 2 ^ set o .n) (sym (x .34)) below)
+    (subst (λ (k : ℕ). some k (endless (set o) (o .words .w)) ≡ false) (sym (x .34)) (x .20 .inv .2))
+    (ap (endless (set o) (o .words .w)) (x .34) ∙ not-false _ (sym (ended .0) ∙ off))))
     (c .words-test .came)
 
-long : (c : tie.Left-words Inv-loop μ-loop Inv-words μ-words) → length (c .words-test .marks) ≡ length (c .before .before .before .before .before .args .marks .now)
-long c =
-    by-way c (λ l h. l) (λ l a v. l) (λ l a v h b e. l) ∙ sym (c .before .before .before .before .before .pre .1 ∙ scratch-is (set (c .before) .n))
-
--- no word before this one fails
-before : (o : tie.At-words Inv-loop μ-loop Inv-words μ-words) → (u : ℕ) → u < o .words .w → fails (set o) u ≡ false
-before o = some-false-at (o .words .w) (fails (set o)) (o .words .inv .4)
+told-by-requires : tie.Need-told-by-requires Inv-loop μ-loop Inv-words μ-words
+told-by-requires c κs = search needs
 
 same-length : tie.Need-same-length Inv-loop μ-loop Inv-words μ-words
-same-length c = long (c .before)
+same-length c =
+    let l = c .before in
+    by-way l (λ n h. n) (λ n h a v. n) (λ n h a v f b e. n) ∙ sym (start (l .before) .pre .1 ∙ scratch-is (set (l .before) .n))
+
+-- the answer by the way there
+module _ (words : ℕ) (any : Bool) (w g : ℕ) where
+  by-all : words ≤ w → verdictBy words any w g ≡ Accepted
+  by-all h = rw (le-leb words w h)
+
+  by-none : w < words → any ≡ false → verdictBy words any w g ≡ NoVector w
+  by-none h e = rw (lt-leb words w h, e)
+
+  by-never : w < words → any ≡ true → verdictBy words any w g ≡ NoEnd w g
+  by-never h e = rw (lt-leb words w h, e)
 
 returns : tie.Need-returns Inv-loop μ-loop Inv-words μ-words
 returns c =
-    let o = c .before .before in
-    let all : o .words .w ≡ 2 ^ set o .r = omega (arith, o .words .inv .0) in
-    sym (judge-accepted (set o) (some-false-at (2 ^ set o .r) (fails (set o)) (ap (λ (k : ℕ). some k (fails (set o))) (sym all) ∙ o .words .inv .4)))
-
-same-length-2 : tie.Need-same-length-2 Inv-loop μ-loop Inv-words μ-words
-same-length-2 c = long (c .before .before)
-
-returns-2 : tie.Need-returns-2 Inv-loop μ-loop Inv-words μ-words
-returns-2 c =
-    let w = c .before .before in
-    let o = w .before in
-    let h : o .words .w < 2 ^ set o .r = omega (arith, o .words .inv .0, c .before .if3 .left) in
-    by-way w (λ l n. absurd (omega arith)) (λ l a v. clash (c .if4 .taken) a)
-    (λ l a v f b e. sym (judge-no-end (set o) (o .words .w) (w .words-test .g) h (before o) v f (some-false-at (w .words-test .g) (endless (set o) (o .words .w)) b) e))
-
-same-length-3 : tie.Need-same-length-3 Inv-loop μ-loop Inv-words μ-words
-same-length-3 c = long (c .before .before)
-
-returns-3 : tie.Need-returns-3 Inv-loop μ-loop Inv-words μ-words
-returns-3 c =
-    let w = c .before .before in
-    let o = w .before in
-    let h : o .words .w < 2 ^ set o .r = omega (arith, o .words .inv .0, c .before .if3 .left) in
-    by-way w (λ l n. absurd (omega arith)) (λ l a v. sym (judge-no-vector (set o) (o .words .w) h (before o) v)) (λ l a v f b e. clash a (c .if4 .left))
+    let l = c .before in
+    let o = l .before in
+    let words : ℕ = 2 ^ set o .r in
+    let told : c .told-by .result ≡ verdictBy words (l .words-test .any) (o .words .w) (l .words-test .g)
+    = c .told-by .ensures ∙ ap (λ (k : ℕ). verdictBy k (l .words-test .any) (o .words .w) (l .words-test .g)) (o .words .inv .0) in
+    told
+    ∙ by-way l
+    (λ n h.
+    let all : o .words .w ≡ 2 ^ set o .r = omega (arith, o .words .inv .0, o .words .inv .2) in
+    by-all words (l .words-test .any) (o .words .w) (l .words-test .g) h
+    ∙ sym (judge-accepted (set o) (some-false-at (2 ^ set o .r) (fails (set o)) (ap (λ (k : ℕ). some k (fails (set o))) (sym all) ∙ o .words .inv .4))))
+    (λ n h a v. by-none words (l .words-test .any) (o .words .w) (l .words-test .g) h a ∙ sym (judge-no-vector (set o) (o .words .w) h (before o) v))
+    (λ n h a v f b e.
+    by-never words (l .words-test .any) (o .words .w) (l .words-test .g) h a
+    ∙ sym (judge-no-end (set o) (o .words .w) (l .words-test .g) h (before o) v f (some-false-at (l .words-test .g) (endless (set o) (o .words .w)) b) e))
 
 pub judge-words-spec : {M : Type 1} → statement M
 judge-words-spec =
@@ -260,8 +369,14 @@ judge-words-spec =
     shl-words
     cast-requests
     shl-requests
+    columns-of-requires
     words-holds
-    build-requires
+    active-at-requires
+    is-seen-requires
+    add-w
+    words-less
+    words-again
+    build-by-requires
     mark-safe-requires
     loop-holds
     start-vector-requires
@@ -269,12 +384,10 @@ judge-words-spec =
     add-g
     loop-less
     loop-again
-    add-w
-    words-less
-    words-again
+    keep-seen-requires
+    add-w-2
+    words-less-2
+    words-again-2
+    told-by-requires
     same-length
-    returns
-    same-length-2
-    returns-2
-    same-length-3
-    returns-3)
+    returns)

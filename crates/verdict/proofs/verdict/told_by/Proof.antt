@@ -1,0 +1,19 @@
+-- `verdict::verdict::told_by` meets its contract. Assumes nothing.
+use mathlib.Core.Path.{_≡_, sym}
+use native.Mathlib.Omega.{arith}
+use borrow.Author.Tests.{le-leb, lt-leb}
+use borrow.Author.Needs.{needs}
+use Rattle.verdict.proofs.verdict.told_by.Statement.{statement}
+use Rattle.verdict.proofs.verdict.told_by.Tie as tie
+
+returns : tie.Need-returns
+returns c = let a = c .before .args in sym (rw (le-leb (a .words) (a .w) (c .if1 .taken)))
+
+returns-2 : tie.Need-returns-2
+returns-2 c = let a = c .before .before .args in sym (rw (lt-leb (a .words) (a .w) (omega (arith, c .before .if1 .left)), c .if2 .taken))
+
+returns-3 : tie.Need-returns-3
+returns-3 c = let a = c .before .before .args in sym (rw (lt-leb (a .words) (a .w) (omega (arith, c .before .if1 .left)), c .if2 .left))
+
+pub told-by-spec : {M : Type 1} → statement M
+told-by-spec = tie.close (tie.spec returns returns-2 returns-3)
