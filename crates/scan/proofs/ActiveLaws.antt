@@ -22,7 +22,7 @@ use Rattle.scan.specs.declared.columns.Columns.{Columns}
 use Rattle.scan.specs.Set.{constraint}
 use Rattle.scan.specs.Shape.{wellFormed}
 use Rattle.scan.specs.Constraint.{readsTrue, outsTrue, isTrue, simple, combined}
-use Rattle.scan.specs.Active.{activeAt, activeOf}
+use Rattle.scan.specs.Active.{isActive, activeOf}
 use Rattle.scan.specs.Holds.{holding, toZero, toOne, F0, F1}
 use Rattle.scan.specs.Pass.{fires}
 use Rattle.scan.specs.way.Columns.{counted, ofEach, columnUpto, column, simpleAt, columnsOf, entryTrue, activeBy}
@@ -35,13 +35,13 @@ use Rattle.scan.proofs.ConstraintLaws.{combined-is}
 module _ (s : Set) (w : ℕ) where
   -- bit i of the mask says that the read literals of constraint i are all true
   pub active-bit : (i : ℕ) → i < s .m → bit i (activeOf s w) ≡ readsTrue (constraint s i) w
-  unfolding activeOf activeAt
-  active-bit i h = bit-word i (s .m) (activeAt s w) h
+  unfolding activeOf isActive
+  active-bit i h = bit-word i (s .m) (isActive s w) h
 
   -- and it has no other bits
   pub active-lt : activeOf s w < 2 ^ s .m
   unfolding activeOf
-  active-lt = word-lt (s .m) (activeAt s w)
+  active-lt = word-lt (s .m) (isActive s w)
 
 -- ---- by the lists of literals
 
@@ -65,7 +65,7 @@ module _ (s : Set) (ok : wellFormed s ≡ true) where
 
   -- the mask that the lists of read literals give
   pub active-is : (w : ℕ) → activeBy (columnsOf s .«read_plain») (columnsOf s .«read_named») (s .m) w ≡ activeOf s w
-  unfolding activeBy columnsOf activeOf activeAt entryTrue readsTrue
+  unfolding activeBy columnsOf activeOf isActive entryTrue readsTrue
   active-is w =
       ap (λ (k : ℕ). word k (entryTrue (columnsOf s .«read_plain») (columnsOf s .«read_named») w)) counted-all
       ∙ word-cong (s .m) _ _ (λ i h.

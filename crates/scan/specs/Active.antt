@@ -9,9 +9,9 @@ use Rattle.scan.specs.Set.{constraint}
 use Rattle.scan.specs.Constraint.{readsTrue}
 
 -- the read literals of constraint i are all true
-unfoldable pub activeAt : Set → ℕ → ℕ → Bool
-activeAt s w i = readsTrue (constraint s i) w
+unfoldable pub isActive : Set → ℕ → ℕ → Bool
+isActive s w i = readsTrue (constraint s i) w
 
 -- the mask of the active constraints: bit i tells of constraint i
 unfoldable pub activeOf : Set → ℕ → ℕ
-activeOf s w = word (s .m) (activeAt s w)
+activeOf s w = word (s .m) (isActive s w)
