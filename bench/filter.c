@@ -197,7 +197,7 @@ static void make_literals(const struct set *s, struct literals *l)
     }
 }
 
-// The constraints whose read literals are all true at the read word w, bit i telling of constraint i: nothing else sees a read word.
+// The constraints whose read literals are all true at the read word w, bit i telling of constraint i.
 static uint64_t active_at(const struct literals *l, size_t m, uint32_t w)
 {
     uint64_t active = 0;
@@ -246,6 +246,37 @@ static void build(const struct set *s, const struct literals *l, uint64_t active
     for (; t->count % LANES != 0; t->count++) {
         t->plain[t->count] = 1;
         t->named[t->count] = t->flip[t->count] = 0;
+    }
+}
+
+static bool are_reads_true(const struct constraint *c, uint32_t w)
+{
+    return (w & c->read_plain) == c->read_plain && (w & c->read_negated) == 0;
+}
+
+// The same at one read word, straight from the set and not filled up: a scan needs one table.
+static void build_at(const struct set *s, uint32_t w, struct table *t)
+{
+    t->f0 = t->f1 = 0;
+    for (size_t i = 0; i < s->m; i++) {
+        const struct constraint *c = &s->constraints[i];
+        if (__builtin_popcount(c->out_plain | c->out_negated) == 1 && are_reads_true(c, w)) {
+            t->f0 |= c->out_plain;
+            t->f1 |= c->out_negated;
+        }
+    }
+    uint16_t unheld = (uint16_t)(((1u << s->n) - 1) & ~(unsigned)(t->f0 | t->f1));
+    t->limit = (uint16_t)((1u << __builtin_popcount(unheld)) - 1);
+    t->count = 0;
+    for (size_t i = 0; i < s->m; i++) {
+        const struct constraint *c = &s->constraints[i];
+        uint16_t named = c->out_plain | c->out_negated;
+        if (__builtin_popcount(named) > 1 && are_reads_true(c, w)) {
+            t->plain[t->count] = c->out_plain;
+            t->named[t->count] = named;
+            t->flip[t->count] = yielding(c, named & unheld, s->n);
+            t->count++;
+        }
     }
 }
 
@@ -395,10 +426,8 @@ static struct sent scan(struct state *st, uint32_t sensor, uint16_t request)
         return (struct sent){ 31, 0, 0 };
     if (request >> s->n != 0)
         return (struct sent){ 32, 0, 0 };
-    struct literals l;
-    make_literals(s, &l);
     struct table t;
-    build(s, &l, active_at(&l, s->m, read_word(st, sensor)), &t);
+    build_at(s, read_word(st, sensor), &t);
     uint16_t v = start_vector(&t, request), made = 0;
     while (!is_safe(&t, v)) {
         if (made == t.limit)

@@ -10,8 +10,19 @@ PANELS = [
 LANGUAGES = [("C", "#1f5fa8"), ("Rattle", "#d0561b")]
 WIDTH, HEIGHT = 900, 320
 LEFT, TOP, PANEL_WIDTH, PANEL_HEIGHT, GAP = 70, 50, 230, 220, 45
+LONG = 0.1  # seconds
 LOWEST, HIGHEST = -6, 0  # powers of ten, in seconds
 POWERS = {-6: "1 µs", -5: "10 µs", -4: "100 µs", -3: "1 ms", -2: "10 ms", -1: "100 ms", 0: "1 s"}
+
+
+def measured_long(measure, file):
+    """The times of one verdict, done so often that all of them take long enough for starting not to count."""
+    times = 1
+    while True:
+        c, rattle = measure(times, file)
+        if LONG <= times * min(c, rattle):
+            return c, rattle
+        times = max(2 * times, int(1.5 * LONG / max(min(c, rattle), 1e-7)))
 
 
 def measured(measure):
@@ -20,9 +31,7 @@ def measured(measure):
         points = []
         for x in values:
             r, n, m = shape(x)
-            expected = 2.0 ** (r + n) * 2e-8 + 2e-6
-            times = max(1, int(0.15 / expected))
-            c, rattle = measure(times, sets.falling(r, n, m, 1, 7).file())
+            c, rattle = measured_long(measure, sets.falling(r, n, m, 1, 7).file())
             points.append((x, c, rattle))
             print(f"r {r}, n {n}, m {m}: C {c:.3g} s, Rattle {rattle:.3g} s", flush=True)
         yield points

@@ -28,7 +28,7 @@ def names(letter, count):
 
 def falling(r, n, m, read_literals, seed):
     """m combined constraints of 2 to 4 outputs and so many read literals each. The one output of the lowest rank stands plain, so that passes
-    only turn outputs off and every walk reaches a safe vector: the set is accepted."""
+    only turn outputs off and every walk reaches a safe vector: the set is accepted. With one output each constraint is simple, and holds it off."""
     rng = random.Random(seed)
     constraints = []
     for _ in range(m):

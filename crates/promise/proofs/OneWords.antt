@@ -1,6 +1,6 @@
 -- Judging and walking by the active constraints of a read word: what the mask says bit by bit, and document 01's answers.
 -- Assumes nothing.
-use mathlib.Core.Path.{_≡_, sym, ap, _∙_, subst}
+use mathlib.Core.Path.{_≡_, sym, ap, _∙_}
 use mathlib.Core.Bool.{true}
 use mathlib.Core.Logic.{_↔_}
 use Prim.Native.Nat.{ℕ, _<_}
@@ -11,6 +11,7 @@ use Rattle.scan.specs.declared.holds.Holds.{Holds}
 use Rattle.scan.specs.Set.{constraint}
 use Rattle.scan.specs.Shape.{wellFormed}
 use Rattle.scan.specs.Active.{activeOf}
+use Rattle.scan.specs.way.Holds.{holdsOf}
 use Rattle.scan.specs.way.Table.{tableOf}
 use Rattle.scan.proofs.ShapeLaws.{masks}
 use Rattle.scan.proofs.ActiveLaws.{active-bit, active-lt, active-is}
@@ -35,7 +36,7 @@ module _ (s : Set) (ok : wellFormed s ≡ true) (w : ℕ) where
       back p = bit-set i (activeOf s w) (active-bit s w i (p .0) ∙ reads-iff (s .r) (s .n) (constraint s i) (masks s ok i (p .0)) w .1 (p .1))
 
   -- the holds of the table are the word's
-  holds-iff : (mask : Holds → ℕ) (P : Type 0) (k : ℕ) → (bit k (mask (Rattle.scan.specs.way.Holds.holdsOf s w)) ≡ true) ↔ P
+  holds-iff : (mask : Holds → ℕ) (P : Type 0) (k : ℕ) → (bit k (mask (holdsOf s w)) ≡ true) ↔ P
       → Bit k (mask (tableOf s (activeOf s w) .holds)) ↔ P
   holds-iff mask P k iff =
       let e = ap (λ (h : Holds). bit k (mask h)) (table-holds s w ok) in (

@@ -5,19 +5,17 @@ use mathlib.Core.Bool.{Bool, true, cond, not, _&&_}
 use mathlib.Core.List.{List}
 use Prim.Native.Nat.{ℕ, _^_, _<_}
 use native.Mathlib.Nat.{min-eq-left, lt-of-lt-of-le}
-use native.Mathlib.Omega.{arith}
 use lib.Dec.{eqb}
 use lib.ListN.{getD, List·getD-append}
 use lib.Bits.{bitAnd}
 use lib.Pow.{pow-mono}
-use Rattle.words.specs.Word.{bit, without, meets}
+use Rattle.words.specs.Word.{bit, without}
 use Rattle.words.specs.Loop.{gather, word, listed}
 use Rattle.words.proofs.BoolLaws.{and-assoc, and-swap}
 use Rattle.words.proofs.BitLaws.{bit-and, bit-without, meets-once}
 use Rattle.words.proofs.LoopLaws.{bit-word, word-lt, word-cong, gather-cong, listed-long, getD-listed}
 use Rattle.scan.specs.declared.set.Constraint.{Constraint}
 use Rattle.scan.specs.declared.set.Set.{Set}
-use Rattle.scan.specs.declared.holds.Holds.{Holds}
 use Rattle.scan.specs.declared.columns.Columns.{Columns}
 use Rattle.scan.specs.Set.{constraint}
 use Rattle.scan.specs.Shape.{wellFormed}

@@ -111,6 +111,6 @@ module _ (s : Set) (w v : ℕ) (ok : wellFormed s ≡ true) where
       ap not (some-false (s .m) (trueAt s w v) (λ i h. by-test (isTrue (constraint s i) w v)
       (λ q. absurd (never-true (t .0) (not-true (some (s .m) (fires s w v)) (t .1)) i h q)) (λ q. q)))
 
-  -- safe, as the table of a read word tells it
+  -- safe, as the table of the active constraints tells it
   pub safe-table : safe s w v ≡ meets (F1 s w) (F0 s w) v && not (some (s .m) (fires s w v))
   safe-table = same-truth (safe s w v) _ safe-held held-safe

@@ -8,7 +8,7 @@ use native.Mathlib.Nat.{min-eq-left}
 use native.Mathlib.Numerals.{add-one}
 use native.Mathlib.Omega.{arith}
 use lib.Dec.{eqb}
-use lib.ListN.{length, getD, set, replicate, length-set, getD-replicate}
+use lib.ListN.{length, getD, set, length-set, getD-replicate}
 use lib.Seq.{getD-set-same, getD-set-other}
 use lib.Bits.{bitAnd, bitOr, bitXor, or-zero-r, and-zero-r}
 use Rattle.words.specs.Word.{bit, without, meets}
@@ -22,7 +22,7 @@ use Rattle.scan.specs.declared.set.Set.{Set}
 use Rattle.scan.specs.declared.holds.Holds.{Holds}
 use Rattle.scan.specs.declared.columns.Columns.{Columns}
 use Rattle.scan.specs.declared.table.Table.{Table}
-use Rattle.scan.specs.Set.{mostOutputs, mostConstraints, constraint, outs}
+use Rattle.scan.specs.Set.{mostConstraints, constraint, outs}
 use Rattle.scan.specs.Shape.{wellFormed}
 use Rattle.scan.specs.Constraint.{outsTrue, safe}
 use Rattle.scan.specs.Active.{activeOf}
@@ -31,7 +31,7 @@ use Rattle.scan.specs.Pass.{yielding, yields, fires, flips, pass}
 use Rattle.scan.specs.Walk.{walkBy, walk}
 use Rattle.scan.specs.way.Holds.{holdsOf, holdsBy, limitBy}
 use Rattle.scan.specs.way.Columns.{columnsOf, entryTrue}
-use Rattle.scan.specs.way.Table.{outputsIn, unheldIn, yieldsIn, emptyTable, withEntry, withCount, tableUpto, evened, tableBy, tableOf, entryFlips, flipsOver, passOver, anyTrue, safeOver, safeIn, passIn, walkIn}
+use Rattle.scan.specs.way.Table.{outputsIn, unheldIn, yieldsIn, emptyTable, withEntry, withCount, tableUpto, filledUp, tableBy, tableOf, entryFlips, flipsOver, passOver, anyTrue, safeOver, safeIn, passIn, walkIn}
 use Rattle.scan.proofs.ShapeLaws.{counts, masks, wide}
 use Rattle.scan.proofs.SafeLaws.{safe-table}
 use Rattle.scan.proofs.ActiveLaws.{counted-all, holds-are, fires-by}
@@ -198,21 +198,21 @@ module _ (s : Set) (w : ℕ) (h : Holds) (entered m : ℕ)
 -- the entries that fill it up flip nothing, and none is true
 module _ (t : Table) (v : ℕ) (few : t .count ≤ mostConstraints)
     (spare : (j : ℕ) → t .count ≤ j → j < mostConstraints → entryTrue (t .plain) (t .named) v j ≡ false) where
-  evened-fits : min (evened (t .count)) mostConstraints ≡ evened (t .count)
-  evened-fits = min-eq-left {m = mostConstraints} (omega arith)
+  filled-fits : min (filledUp (t .count)) mostConstraints ≡ filledUp (t .count)
+  filled-fits = min-eq-left {m = mostConstraints} (omega arith)
 
-  flips-evened : flipsOver (t .plain) (t .named) (t .flip) (evened (t .count)) v ≡ gather (t .count) (entryFlips (t .plain) (t .named) (t .flip) v)
+  flips-filled : flipsOver (t .plain) (t .named) (t .flip) (filledUp (t .count)) v ≡ gather (t .count) (entryFlips (t .plain) (t .named) (t .flip) v)
   unfolding flipsOver entryFlips
-  flips-evened =
-      ap (λ (k : ℕ). gather k (entryFlips (t .plain) (t .named) (t .flip) v)) evened-fits
-      ∙ still (λ k. gather k (entryFlips (t .plain) (t .named) (t .flip) v)) (t .count) (evened (t .count)) (omega arith)
+  flips-filled =
+      ap (λ (k : ℕ). gather k (entryFlips (t .plain) (t .named) (t .flip) v)) filled-fits
+      ∙ still (λ k. gather k (entryFlips (t .plain) (t .named) (t .flip) v)) (t .count) (filledUp (t .count)) (omega arith)
       (λ k l b. gather-more k _ ∙ ap (λ (x : Bool). bitOr (gather k (entryFlips (t .plain) (t .named) (t .flip) v)) (cond x (getD (t .flip) k 0) 0)) (spare k l (omega arith)) ∙ or-zero-r _)
 
-  any-evened : anyTrue (t .plain) (t .named) (evened (t .count)) v ≡ some (t .count) (entryTrue (t .plain) (t .named) v)
+  any-filled : anyTrue (t .plain) (t .named) (filledUp (t .count)) v ≡ some (t .count) (entryTrue (t .plain) (t .named) v)
   unfolding anyTrue
-  any-evened =
-      ap (λ (k : ℕ). some k (entryTrue (t .plain) (t .named) v)) evened-fits
-      ∙ still (λ k. some k (entryTrue (t .plain) (t .named) v)) (t .count) (evened (t .count)) (omega arith)
+  any-filled =
+      ap (λ (k : ℕ). some k (entryTrue (t .plain) (t .named) v)) filled-fits
+      ∙ still (λ k. some k (entryTrue (t .plain) (t .named) v)) (t .count) (filledUp (t .count)) (omega arith)
       (λ k l b. some-more k _ ∙ ap (λ (x : Bool). some k (entryTrue (t .plain) (t .named) v) || x) (spare k l (omega arith)) ∙ or-false _)
 
 -- what the code makes of the columns of a set and a mask is its table
@@ -249,11 +249,11 @@ module _ (s : Set) (w : ℕ) (ok : wellFormed s ≡ true) where
   abbrev entries : Table
   entries = tableUpto s (holdsOf s w) entered (s .m)
 
-  table-is : tableOf s (activeOf s w) ≡ withCount (evened (entries .count)) entries
+  table-is : tableOf s (activeOf s w) ≡ withCount (filledUp (entries .count)) entries
   unfolding tableOf tableBy
   table-is =
       ap (λ (h : Holds). tableBy s h entered) (holds-are s ok w)
-      ∙ ap (λ (k : ℕ). withCount (evened (tableUpto s (holdsOf s w) entered k .count)) (tableUpto s (holdsOf s w) entered k)) (counted-all s ok)
+      ∙ ap (λ (k : ℕ). withCount (filledUp (tableUpto s (holdsOf s w) entered k .count)) (tableUpto s (holdsOf s w) entered k)) (counted-all s ok)
 
   formed : Formed s (holdsOf s w) entries
   formed = upto-formed s (holdsOf s w) entered (s .m)
@@ -280,12 +280,12 @@ module _ (s : Set) (w : ℕ) (ok : wellFormed s ≡ true) where
   unfolding passOver pass
   table-pass v =
       ap (λ (t : Table). passIn t v) table-is
-      ∙ ap (bitXor v) (flips-evened entries v few (formed .spare v) ∙ sym (told .flipped v))
+      ∙ ap (bitXor v) (flips-filled entries v few (formed .spare v) ∙ sym (told .flipped v))
 
   pub table-safe : (v : ℕ) → safeIn (tableOf s (activeOf s w)) v ≡ safe s w v
   unfolding safeOver
   table-safe v =
-      let anys = any-evened entries v few (formed .spare v) ∙ sym (told .anys v) in
+      let anys = any-filled entries v few (formed .spare v) ∙ sym (told .anys v) in
       ap (λ (t : Table). safeIn t v) table-is
       ∙ (λ i. meets (formed .holds-is i .f1) (formed .holds-is i .f0) v && not (anys i)) ∙ sym (safe-table s w v ok)
 

@@ -5,7 +5,7 @@ use mathlib.Core.Path.{_≡_, sym, ap, _∙_, subst}
 use mathlib.Core.Bool.{Bool, true, false, cond}
 use Prim.Native.Nat.{ℕ, zero, suc, _+_, _-_, _<_, _^_, _≤_}
 use native.Mathlib.Omega.{arith}
-use native.Mathlib.Numerals.{add-one, one-add}
+use native.Mathlib.Numerals.{add-one}
 use native.Mathlib.Decide.{ℕ-discrete, decLt}
 use lib.Pow.{pow-pos}
 use Rattle.scan.specs.declared.walk.Walk.the-variants.{Safe, Never}
@@ -169,17 +169,3 @@ module _ (s : Set) (w : ℕ) where
   pub meets-reaches : (request j : ℕ) → ReachesFrom s w (after s w request j) → Reaches s w request
   unfolding after
   meets-reaches g j r = (j + r .0, ap (safe s w) (iterate-add (pass s w) (startVector s w g) j (r .0)) ∙ r .1)
-
-  -- a walk's start vector is such a vector if the walk reaches a safe one
-  pub reaches-after : (request : ℕ) → Reaches s w request → ReachesFrom s w (startVector s w request)
-  unfolding after
-  reaches-after g r = r
-
-  -- and so is what a pass makes of one that is unsafe
-  pub reaches-on : (v : ℕ) → safe s w v ≡ false → ReachesFrom s w v → ReachesFrom s w (pass s w v)
-  unfolding iterate
-  reaches-on v e r = go (r .0) (r .1)
-    where
-      go : (k : ℕ) → safe s w (iterate (pass s w) k v) ≡ true → ReachesFrom s w (pass s w v)
-      go zero p = clash p e
-      go (suc k) p = (k, ap (safe s w) (sym (iterate-add (pass s w) v 1 k) ∙ ap (λ (n : ℕ). iterate (pass s w) n v) (one-add k)) ∙ p)

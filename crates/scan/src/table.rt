@@ -19,7 +19,7 @@ ghost use Rattle.words.specs.Word.{without};
 ghost use Rattle.words.specs.Loop.{some};
 ghost use Rattle.scan.specs.Set.{mostConstraints};
 ghost use Rattle.scan.specs.way.Holds.{holdsBy};
-ghost use Rattle.scan.specs.way.Table.{evened, tableBy, flipsOver, passOver, anyTrue, safeOver};
+ghost use Rattle.scan.specs.way.Table.{filledUp, tableBy, flipsOver, passOver, anyTrue, safeOver};
 
 // The entries below count: the outputs named plain, all the outputs named, and those that yield.
 // They are filled up to a multiple of sixteen with entries that are never true, so that a loop over them has no rest.
@@ -32,16 +32,16 @@ pub struct Table {
     pub flip: [u16; MOST_CONSTRAINTS],
 }
 
-// What no vector has at no output: an entry that names nothing and asks for this is never true.
+// An entry that names no output and asks for this is never true.
 const NEVER: u16 = 1;
 
 // The entries that are gone over at a time.
 const LANES: usize = 16;
 
 // The next multiple of sixteen.
-fn even_up(count: usize) -> usize
+fn fill_up(count: usize) -> usize
     requires { ⌜ count ≤ mostConstraints ⌝ }
-    ensures { λ r. ⌜ r ≡ evened count ⌝ }
+    ensures { λ r. ⌜ r ≡ filledUp count ⌝ }
 {
     (count + (LANES - 1)) / LANES * LANES
 }
@@ -73,14 +73,14 @@ fn fill(s: Set, h: Holds, entered: u64) -> Table
     Table {
         holds: h,
         limit: pass_limit(unheld),
-        count: even_up(count),
+        count: fill_up(count),
         plain,
         named,
         flip,
     }
 }
 
-// The table of the set where the constraints of the mask `active` are, by the outputs that each names plain and negated, and by the mask of the simple ones.
+// The table of the set where the constraints of the mask are active, by the outputs that each names plain and negated, and by the mask of the simple ones.
 pub fn build_by<'a>(
     set: Set,
     plain: &'a [u16; MOST_CONSTRAINTS],

@@ -1,13 +1,13 @@
 -- Marks, turn by turn: a walk that looks for a mark, and a path that is marked.
 -- Assumes nothing.
-use mathlib.Core.Path.{_≡_, refl, sym, ap, ap₂, _∙_}
+use mathlib.Core.Path.{_≡_, sym, ap, ap₂, _∙_}
 use mathlib.Core.Bool.{Bool, true, false}
 use mathlib.Core.List.{List}
-use Prim.Native.Nat.{ℕ, zero, suc, _+_, _≤_}
+use Prim.Native.Nat.{ℕ, _+_, _≤_}
 use native.Mathlib.Numerals.{add-one}
 use native.Mathlib.Omega.{arith}
 use lib.ListN.{set}
-use Rattle.words.specs.Loop.{some, first, iterate}
+use Rattle.words.specs.Loop.{some, iterate}
 use Rattle.words.proofs.LoopTurns.{some-miss, missed-here, missed-all}
 use Rattle.verdict.specs.way.Marks.{marked, passesToMark, pathMarked}
 

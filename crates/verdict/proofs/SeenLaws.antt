@@ -7,20 +7,18 @@ use Prim.Native.Nat.{ℕ, _^_, _<_}
 use native.Mathlib.Nat.{mod-lt}
 use native.Mathlib.Decide.{ℕ-discrete}
 use native.Mathlib.Omega.{arith}
-use lib.Dec.{eqb}
-use lib.ListN.{length, getD, set, replicate, length-set, length-replicate}
+use lib.ListN.{length, getD, replicate, length-set, length-replicate}
 use lib.Seq.{getD-set-same, getD-set-other}
 use lib.Pow.{pow-pos}
 use borrow.Author.Tests.{eqb-true}
 use Rattle.words.specs.Word.{bit}
-use Rattle.words.specs.Loop.{some}
 use Rattle.words.proofs.BitLaws.{bit-zero}
 use Rattle.words.proofs.ListLaws.{zeros-any}
 use Rattle.words.proofs.LoopLaws.{some-true, some-false, some-cong}
 use Rattle.scan.specs.declared.set.Set.{Set}
 use Rattle.scan.specs.Set.{constraint}
 use Rattle.scan.specs.Shape.{wellFormed}
-use Rattle.scan.specs.Constraint.{readsTrue, outsTrue, isTrue, trueAt, safe, hasVector}
+use Rattle.scan.specs.Constraint.{outsTrue, isTrue, trueAt, safe, hasVector}
 use Rattle.scan.specs.Active.{activeOf}
 use Rattle.scan.specs.Holds.{unheldCount}
 use Rattle.scan.specs.Walk.{after}
@@ -28,12 +26,8 @@ use Rattle.scan.proofs.ActiveLaws.{active-bit}
 use Rattle.scan.proofs.TableLaws.{same-safe, same-walk}
 use Rattle.scan.proofs.WalkLaws.{walk-safe}
 use Rattle.verdict.specs.Judge.{isNever, endless, fails}
-use Rattle.verdict.specs.way.Seen.{placeOf, isSeen, withSeen}
+use Rattle.verdict.specs.way.Seen.{places, placeOf, isSeen, withSeen}
 use Rattle.verdict.proofs.MeaningLaws.{passes}
-
--- the places that there are
-abbrev pub places : ℕ
-places = 251
 
 -- every mask that is kept is one of good words
 pub record Known (s : Set) (seen : List ℕ) : Type 0 where

@@ -12,7 +12,7 @@ use lib.ListN.{length, getD, set, length-set, List·getD-eq-default}
 use lib.Seq.{getD-set-same, getD-set-other}
 use lib.Pow.{pow-pos}
 use borrow.Author.Tests.{ltb-true, ltb-false, not-true, not-false}
-use Rattle.words.specs.Loop.{some, first, iterate}
+use Rattle.words.specs.Loop.{some, iterate}
 use Rattle.words.proofs.BoolLaws.{by-test, clash}
 use Rattle.words.proofs.LoopLaws.{First, first-spec, listed-long, getD-listed}
 use Rattle.words.proofs.Orbit.{iterate-add}
@@ -25,10 +25,9 @@ use Rattle.scan.specs.Holds.{unheldCount, passLimit, startFrom, startVector}
 use Rattle.scan.specs.way.Table.{tableOf, safeIn, passIn}
 use Rattle.scan.specs.Pass.{pass}
 use Rattle.scan.specs.Walk.{after, Reaches}
-use Rattle.scan.proofs.HoldsLaws.{start-lt}
-use Rattle.scan.proofs.PassLaws.{pass-lt, after-lt}
+use Rattle.scan.proofs.PassLaws.{after-lt}
 use Rattle.scan.proofs.TableLaws.{table-safe, table-pass, table-start, table-limit}
-use Rattle.scan.proofs.WalkLaws.{ReachesFrom, safe-reaches, meets-reaches, reaches-on, reaches-after, walk-due, walk-never}
+use Rattle.scan.proofs.WalkLaws.{ReachesFrom, safe-reaches, meets-reaches, walk-due, walk-never}
 use Rattle.verdict.specs.Judge.{isNever, endless}
 use Rattle.verdict.specs.way.Marks.{marked, markOf, markedWhere, passesToMark, comesToMark, pathMarked, settled}
 use Rattle.verdict.proofs.MarksLaws.{markedAfter}

@@ -2,14 +2,14 @@
 ghost use mathlib.Core.Path.{_≡_};
 ghost use Rattle.verdict.specs.way.Seen.{placeOf, isSeen, withSeen};
 
-// A prime: masks that differ in few bits get different places.
+// A prime: masks that differ in one bit have different places.
 pub const PLACES: usize = 251;
 
 // The one place where a mask is kept.
 fn place_of(active: u64) -> usize
     ensures { λ r. ⌜ r ≡ placeOf active ⌝ }
 {
-    (active % 251) as usize
+    (active % PLACES as u64) as usize
 }
 
 // Whether the mask is the one that its place has.

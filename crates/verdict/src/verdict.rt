@@ -26,7 +26,7 @@ pub enum Verdict {
     NoEnd { word: u32, request: u16 },
 }
 
-// The verdict by where the loops were left: with all words passed; at the word w, if `any` says that it has a safe vector with the request g.
+// The verdict by where the loops were left: accepted with all words passed; else the word w fails, with the request g if `any` says that it has a safe vector.
 fn told_by(words: u32, any: bool, w: u32, g: u16) -> Verdict
     ensures { λ r. ⌜ r ≡ verdictBy words any w g ⌝ }
 {
@@ -50,14 +50,13 @@ fn judge_words(set: Set, marks: &mut [u8]) -> Verdict
 {
     let words = 1u32 << set.r;
     let requests = 1u16 << set.n;
-    let m = set.m;
     let by = columns_of(set);
     let mut seen = [0u64; PLACES];
     let mut any = true;
     let mut w: u32 = 0;
     let mut g: u16 = 0;
     'words: while w < words {
-        let active = active_at(&by.read_plain, &by.read_named, m, w);
+        let active = active_at(&by.read_plain, &by.read_named, set.m, w);
         if is_seen(&seen, active) {
             w = w + 1;
             continue 'words;

@@ -59,7 +59,7 @@ pub fn without16(x: u16, y: u16) -> u16
 }
 
 // Whether every bit of plain is set in w, and none of negated.
-pub fn meets32(plain: u32, negated: u32, w: u32) -> bool
+fn meets32(plain: u32, negated: u32, w: u32) -> bool
     ensures { λ r. ⌜ r ≡ meets plain negated w ⌝ }
 {
     if w & plain == plain {

@@ -68,12 +68,12 @@ tableUpto s h entered (suc i) =
     cond (bit i entered) (withEntry (constraint s i) (yieldsIn s h i) t) t
 
 -- the next multiple of sixteen
-abbrev pub evened : ℕ → ℕ
-evened count = (count + 15) / 16 * 16
+abbrev pub filledUp : ℕ → ℕ
+filledUp count = (count + 15) / 16 * 16
 
 -- the whole table: the entries are filled up to a multiple of sixteen with such that are never true
 unfoldable pub tableBy : Set → Holds → ℕ → Table
-tableBy s h entered = let t = tableUpto s h entered (counted s) in withCount (evened (t .count)) t
+tableBy s h entered = let t = tableUpto s h entered (counted s) in withCount (filledUp (t .count)) t
 
 -- the table of a set where the constraints of the mask are active: the simple ones of them hold, the others have an entry
 unfoldable pub tableOf : Set → ℕ → Table

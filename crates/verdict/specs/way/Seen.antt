@@ -6,9 +6,13 @@ use mathlib.Core.List.{List}
 use lib.Dec.{eqb}
 use lib.ListN.{getD, set}
 
--- the place of a mask: one of 251, a prime
+-- the places that there are: a prime
+abbrev pub places : ℕ
+places = 251
+
+-- the place of a mask
 abbrev pub placeOf : ℕ → ℕ
-placeOf active = active % 251
+placeOf active = active % places
 
 -- the mask is the one at its place
 abbrev pub isSeen : List ℕ → ℕ → Bool

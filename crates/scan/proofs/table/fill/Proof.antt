@@ -15,7 +15,7 @@ use Rattle.scan.specs.Holds.{unheldBy}
 use Rattle.scan.specs.Pass.{yielding}
 use Rattle.scan.specs.way.Holds.{limitBy}
 use Rattle.scan.specs.way.Columns.{counted}
-use Rattle.scan.specs.way.Table.{outputsIn, unheldIn, yieldsIn, withEntry, withCount, tableUpto, evened, tableBy}
+use Rattle.scan.specs.way.Table.{outputsIn, unheldIn, yieldsIn, withEntry, withCount, tableUpto, filledUp, tableBy}
 use Rattle.scan.proofs.TableLaws.{upto-none, upto-on, upto-off}
 use borrow.Author.Needs.{needs}
 use Rattle.scan.proofs.table.fill.Statement.{statement}
@@ -45,12 +45,12 @@ module _ (s : Set) (h : Holds) (entered i count : ℕ) (plain named flip : List 
       ∙ sym (upto-on s h entered i e)
 
   -- all constraints are passed
-  done : (n unheld limit filled : ℕ) → n ≡ outputsIn s → unheld ≡ unheldBy n (h .f0) (h .f1) → limit ≡ limitBy unheld → filled ≡ evened count
+  done : (n unheld limit filled : ℕ) → n ≡ outputsIn s → unheld ≡ unheldBy n (h .f0) (h .f1) → limit ≡ limitBy unheld → filled ≡ filledUp count
       → i ≡ counted s → table h limit filled plain named flip ≡ tableBy s h entered
   unfolding tableBy unheldIn
   done n unheld limit filled en eu el ef e =
       ap₂ (λ (x k : ℕ). table h x k plain named flip) (el ∙ ap limitBy (eu ∙ ap (λ (x : ℕ). unheldBy x (h .f0) (h .f1)) en)) ef
-      ∙ ap (λ (t : Table). withCount (evened (t .count)) t) (inv ∙ ap (tableUpto s h entered) e)
+      ∙ ap (λ (t : Table). withCount (filledUp (t .count)) t) (inv ∙ ap (tableUpto s h entered) e)
 
 abbrev Inv-loop : tie.InvT-loop
 Inv-loop h entered s m n unheld plain₀ named₀ flip₀ count₀ i₀ plain named flip count i =
@@ -140,8 +140,8 @@ loop-again-2 c =
 pass-limit-requires : tie.Need-pass-limit-requires Inv-loop μ-loop
 pass-limit-requires c κs = search needs
 
-even-up-requires : tie.Need-even-up-requires Inv-loop μ-loop
-even-up-requires c κs = search needs
+fill-up-requires : tie.Need-fill-up-requires Inv-loop μ-loop
+fill-up-requires c κs = search needs
 
 returns : tie.Need-returns Inv-loop μ-loop
 returns c =
@@ -150,8 +150,8 @@ returns c =
     let u = p .before .before .before in
     let a = u .before .before .before .args in
     done (a .t1) (a .h) (a .entered) (l .i) (l .count) (l .plain) (l .named) (l .flip) (l .inv .2)
-    (u .before .least2 .result) (u .unheld-of .result) (p .pass-limit .result) (c .even-up .result) (u .before .least2 .ensures) (u .unheld-of .ensures)
-    (p .pass-limit .ensures) (c .even-up .ensures) (omega arith)
+    (u .before .least2 .result) (u .unheld-of .result) (p .pass-limit .result) (c .fill-up .result) (u .before .least2 .ensures) (u .unheld-of .ensures)
+    (p .pass-limit .ensures) (c .fill-up .ensures) (omega arith)
 
 pub fill-spec : {M : Type 1} → statement M
 fill-spec =
@@ -180,5 +180,5 @@ fill-spec =
     loop-less-2
     loop-again-2
     pass-limit-requires
-    even-up-requires
+    fill-up-requires
     returns)

@@ -27,9 +27,8 @@ use Rattle.scan.specs.way.Table.{tableBy, tableOf}
 use Rattle.scan.proofs.ShapeLaws.{counts}
 use Rattle.scan.proofs.ActiveLaws.{made-active}
 use Rattle.scan.proofs.TableLaws.{made-table}
-use Rattle.verdict.specs.declared.verdict.Verdict.{Verdict}
 use Rattle.verdict.specs.declared.verdict.Verdict.the-variants.{Accepted, NoVector, NoEnd}
-use Rattle.verdict.specs.Judge.{endless, fails, judgeWords}
+use Rattle.verdict.specs.Judge.{endless, fails}
 use Rattle.verdict.specs.way.Left.{verdictBy}
 use Rattle.verdict.proofs.JudgeLaws.{scratch-is}
 use Rattle.verdict.proofs.MeaningLaws.{judge-accepted, judge-no-vector, judge-no-end, passes}
@@ -40,18 +39,18 @@ use Rattle.verdict.proofs.verdict.judge_words.Statement.{statement}
 use Rattle.verdict.proofs.verdict.judge_words.Tie as tie
 
 abbrev Inv-loop : tie.InvT-loop
-Inv-loop set marks₀ words requests m l seen any w g₀ active t f0 f1 limit count marks g =
+Inv-loop set marks₀ words requests l seen any w g₀ active t f0 f1 limit count marks g =
     (g ≤ requests) × Ready set w marks × (some g (endless set w) ≡ false)
 
 abbrev μ-loop : tie.MeasureT-loop
-μ-loop set marks₀ words requests m l seen any w g₀ active t f0 f1 limit count marks g = requests - g
+μ-loop set marks₀ words requests l seen any w g₀ active t f0 f1 limit count marks g = requests - g
 
 abbrev Inv-words : tie.InvT-words
-Inv-words set marks₀ words requests m l seen₀ any₀ w₀ g₀ marks seen any w g =
+Inv-words set marks₀ words requests l seen₀ any₀ w₀ g₀ marks seen any w g =
     (words ≡ 2 ^ set .r) × (requests ≡ 2 ^ set .n) × (w ≤ words) × (length marks ≡ 2 ^ set .n) × (some w (fails set) ≡ false) × Known set seen
 
 abbrev μ-words : tie.MeasureT-words
-μ-words set marks₀ words requests m l seen₀ any₀ w₀ g₀ marks seen any w g = words - w
+μ-words set marks₀ words requests l seen₀ any₀ w₀ g₀ marks seen any w g = words - w
 
 few : (c : tie.Start Inv-loop μ-loop Inv-words μ-words) → (c .args .set .r ≤ mostReads) × (c .args .set .n ≤ mostOutputs)
 few c = let n = counts (c .args .set) (c .pre .0) in (n .r-le, n .n-le)

@@ -1,8 +1,7 @@
 -- `verdict::verdict::told_by` meets its contract. Assumes nothing.
-use mathlib.Core.Path.{_≡_, sym}
+use mathlib.Core.Path.{sym}
 use native.Mathlib.Omega.{arith}
 use borrow.Author.Tests.{le-leb, lt-leb}
-use borrow.Author.Needs.{needs}
 use Rattle.verdict.proofs.verdict.told_by.Statement.{statement}
 use Rattle.verdict.proofs.verdict.told_by.Tie as tie
 
