@@ -11,8 +11,8 @@ LANGUAGES = [("C", "#1f5fa8"), ("Rattle", "#d0561b")]
 WIDTH, HEIGHT = 900, 320
 LEFT, TOP, PANEL_WIDTH, PANEL_HEIGHT, GAP = 70, 50, 230, 220, 45
 LONG = 0.1  # seconds
-LOWEST, HIGHEST = -6, 0  # powers of ten, in seconds
-POWERS = {-6: "1 µs", -5: "10 µs", -4: "100 µs", -3: "1 ms", -2: "10 ms", -1: "100 ms", 0: "1 s"}
+LOWEST, HIGHEST = -7, 0  # powers of ten, in seconds
+POWERS = {-7: "100 ns", -6: "1 µs", -5: "10 µs", -4: "100 µs", -3: "1 ms", -2: "10 ms", -1: "100 ms", 0: "1 s"}
 
 
 def measured_long(measure, file):
