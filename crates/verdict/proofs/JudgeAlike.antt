@@ -52,13 +52,13 @@ module _ (s t : Set) (a : AlikeButLone s t) where
   means-there Accepted m = λ w h. good-there w (m w (subst (λ (r : ℕ). w < 2 ^ r) (sym (a .r-same)) h))
   means-there (NoVector w) m = record {
     within = subst (λ (r : ℕ). w < 2 ^ r) (a .r-same) (m .within);
-    before = λ u h. good-there u (m .before u h);
+    before = λ u h. safe-there u (m .before u h);
     none = λ h. m .none (safe-back w h);
   }
   means-there (NoEnd w g) m = record {
     within = subst (λ (r : ℕ). w < 2 ^ r) (a .r-same) (m .within);
-    before = λ u h. good-there u (m .before u h);
-    vector = safe-there w (m .vector);
+    vectors = λ u h. safe-there u (m .vectors u (subst (λ (r : ℕ). u < 2 ^ r) (sym (a .r-same)) h));
+    before = λ u h request l. reaches-there u request (m .before u h request (subst (λ (n : ℕ). request < 2 ^ n) (sym (a .n-same)) l));
     fits = subst (λ (n : ℕ). g < 2 ^ n) (a .n-same) (m .fits);
     ends = λ request h. reaches-there w request (m .ends request h);
     never = λ r. m .never (reaches-back w g r);

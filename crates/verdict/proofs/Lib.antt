@@ -1,5 +1,8 @@
 pub mod JudgeLaws
+pub mod WordTests
+pub mod FirstFailingLaws
 pub mod MeaningLaws
+pub mod OrderLaws
 pub mod MarksLaws
 pub mod WordMarks
 pub mod SeenLaws

@@ -1,8 +1,8 @@
--- The verdict on a set. Read words are tried in rising order, every r-bit word counting as possible; for a word first whether any vector is safe,
--- then requests in rising order; the first word that fails rejects the set.
+-- The verdict on a set, every r-bit read word counting as possible: first all words are tried for one at which no vector is safe, then all for one with a
+-- request whose walk never is safe, words and requests in rising order (change request K5).
 -- Assumes nothing.
 use Prim.Native.Nat.{ℕ, _^_}
-use mathlib.Core.Bool.{Bool, true, false, cond, not, _||_}
+use mathlib.Core.Bool.{Bool, true, false, cond, not}
 use lib.Dec.{ltb}
 use Rattle.words.specs.Loop.{some, first}
 use Rattle.scan.specs.declared.set.Set.{Set}
@@ -23,25 +23,25 @@ isNever Never = true
 unfoldable pub endless : Set → ℕ → ℕ → Bool
 endless s w request = isNever (walk s w request)
 
--- the read word fails: it has no safe vector, or a request whose walk never is safe
-unfoldable pub fails : Set → ℕ → Bool
-fails s w = not (hasVector s w) || some (2 ^ s .n) (endless s w)
+-- no vector is safe at the read word
+unfoldable pub lacks : Set → ℕ → Bool
+lacks s w = not (hasVector s w)
 
--- 22 for a word with no safe vector, else 23 with the request g
-unfoldable pub rejectionBy : Set → ℕ → ℕ → Verdict
-rejectionBy s w g = cond (hasVector s w) (NoEnd w g) (NoVector w)
+-- at the read word the walk from some request never is safe
+unfoldable pub hasEndless : Set → ℕ → Bool
+hasEndless s w = some (2 ^ s .n) (endless s w)
 
--- the rejection of a word that fails: with the first request that fails
-unfoldable pub rejection : Set → ℕ → Verdict
-rejection s w = rejectionBy s w (first (2 ^ s .n) (endless s w))
+-- 22 with the word w, if it is one of the set's words; else what else is said
+unfoldable pub vectorAt : Set → ℕ → Verdict → Verdict
+vectorAt s w otherwise = cond (ltb w (2 ^ s .r)) (NoVector w) otherwise
 
--- the word w rejects the set, if it is one of its words
-unfoldable pub verdictAt : Set → ℕ → Verdict
-verdictAt s w = let bad = rejection s w in cond (ltb w (2 ^ s .r)) bad Accepted
+-- 23 with the word w and its first request whose walk never is safe, if w is one of the set's words; else the set is accepted
+unfoldable pub endlessAt : Set → ℕ → Verdict
+endlessAt s w = let bad = NoEnd w (first (2 ^ s .n) (endless s w)) in cond (ltb w (2 ^ s .r)) bad Accepted
 
--- the first word that fails rejects the set; with none it is accepted
+-- the first word without a safe vector rejects the set; if there is none, the first with an endless walk
 unfoldable pub judgeWords : Set → Verdict
-judgeWords s = verdictAt s (first (2 ^ s .r) (fails s))
+judgeWords s = vectorAt s (first (2 ^ s .r) (lacks s)) (endlessAt s (first (2 ^ s .r) (hasEndless s)))
 
 -- the bytes of scratch that a verdict needs: one for each of 2 ^ n vectors
 unfoldable pub scratchBytes : ℕ → ℕ

@@ -1,4 +1,5 @@
 pub mod Judge
+pub mod FirstFailing
 pub mod Told
 pub mod Meaning
 pub mod way

@@ -13,17 +13,17 @@ pub record Good (s : Set) (w : ℕ) : Type 0 where
   pub vector : HasSafe s w
   pub ends : (request : ℕ) → request < 2 ^ s .n → Reaches s w request
 
--- w is the first word that is not good, and has no safe vector
+-- w is the first word without a safe vector
 pub record FirstWithout (s : Set) (w : ℕ) : Type 0 where
   pub within : w < 2 ^ s .r
-  pub before : (u : ℕ) → u < w → Good s u
+  pub before : (u : ℕ) → u < w → HasSafe s u
   pub none : ¬ HasSafe s w
 
--- w is the first word that is not good; it has a safe vector, and g is the first request whose walk never reaches one
+-- every word has a safe vector; w is the first with a request whose walk never reaches one, and g is the first such request
 pub record FirstEndless (s : Set) (w g : ℕ) : Type 0 where
   pub within : w < 2 ^ s .r
-  pub before : (u : ℕ) → u < w → Good s u
-  pub vector : HasSafe s w
+  pub vectors : (u : ℕ) → u < 2 ^ s .r → HasSafe s u
+  pub before : (u : ℕ) → u < w → (request : ℕ) → request < 2 ^ s .n → Reaches s u request
   pub fits : g < 2 ^ s .n
   pub ends : (request : ℕ) → request < g → Reaches s w request
   pub never : ¬ Reaches s w g
@@ -39,3 +39,28 @@ Means s ShortScratch = ⊥
 -- for some read word no vector leaves every constraint false, or the walk from some request never reaches one
 abbrev pub Bad : Set → Type 0
 Bad s = (w : ℕ) × (w < 2 ^ s .r) × ((¬ HasSafe s w) ⊎ ((g : ℕ) × (g < 2 ^ s .n) × (¬ Reaches s w g)))
+
+-- ---- in document 01's order
+
+-- w is the first word that is not good, and has no safe vector
+pub record FailsWithout (s : Set) (w : ℕ) : Type 0 where
+  pub within : w < 2 ^ s .r
+  pub before : (u : ℕ) → u < w → Good s u
+  pub none : ¬ HasSafe s w
+
+-- w is the first word that is not good; it has a safe vector, and g is the first request whose walk never reaches one
+pub record FailsEndless (s : Set) (w g : ℕ) : Type 0 where
+  pub within : w < 2 ^ s .r
+  pub before : (u : ℕ) → u < w → Good s u
+  pub vector : HasSafe s w
+  pub fits : g < 2 ^ s .n
+  pub ends : (request : ℕ) → request < g → Reaches s w request
+  pub never : ¬ Reaches s w g
+
+-- what a verdict in that order says of the set
+abbrev pub MeansFirst : Set → Verdict → Type 0
+MeansFirst s Accepted = (w : ℕ) → w < 2 ^ s .r → Good s w
+MeansFirst s (NoVector w) = FailsWithout s w
+MeansFirst s (NoEnd w g) = FailsEndless s w g
+MeansFirst s BadSet = ⊥
+MeansFirst s ShortScratch = ⊥

@@ -1,6 +1,7 @@
 // The verdict on a set at commissioning. Above the scan part, whose promises it uses.
 mod marks; // marks in the scratch: the vectors known to reach a safe one
-mod seen; // the masks of active constraints known to be of good words
+mod seen; // the masks of active constraints known to be of words that pass a test
+mod missing; // the search for a word without a safe vector
 mod verdict; // the verdict
 mod told; // the numbers of verdicts
 

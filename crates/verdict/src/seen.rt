@@ -1,4 +1,5 @@
-// The masks of active constraints that are known to be of good words: at every word with such a mask some vector is safe and every walk reaches a safe one.
+// The masks of active constraints that are known to be of words that pass a test: of good words, at which some vector is safe and every walk reaches a safe one;
+// or, in the search for a word without a safe vector, of words with one.
 ghost use mathlib.Core.Path.{_≡_};
 ghost use Rattle.verdict.specs.way.Seen.{placeOf, isSeen, withSeen};
 

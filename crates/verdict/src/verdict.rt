@@ -1,6 +1,7 @@
 // The verdict: whether at every read word some vector is safe and every request's walk reaches a safe one.
 use super::marks::mark_safe;
 use super::marks::settle;
+use super::missing::first_without;
 use super::seen::PLACES;
 use super::seen::is_seen;
 use super::seen::keep_seen;
@@ -14,10 +15,13 @@ ghost use mathlib.Core.Path.{_≡_};
 ghost use mathlib.Core.Bool.{true};
 ghost use lib.ListN.{length, drop};
 ghost use Rattle.scan.specs.Shape.{wellFormed};
-ghost use Rattle.verdict.specs.Judge.{scratchBytes, judgeWords, judgeOf, looseBytes};
+ghost use Rattle.verdict.specs.Judge.{lacks, judgeWords, scratchBytes, judgeOf, looseBytes};
+ghost use Rattle.verdict.specs.FirstFailing.{fails, firstFailing};
+ghost use Rattle.verdict.specs.way.Seen.{Known};
 ghost use Rattle.verdict.specs.way.Left.{verdictBy};
 
-// Accepted, or why not: the first read word that fails and, where it has a safe vector, the first request whose walk never is safe.
+// Accepted, or why not: the first read word without a safe vector; or, where every word has one, the first word with a request whose walk never is safe, and its
+// first such request.
 pub enum Verdict {
     Accepted,
     BadSet,
@@ -42,22 +46,22 @@ fn told_by(words: u32, any: bool, w: u32, g: u16) -> Verdict
     Verdict::NoVector { word: w }
 }
 
-// The verdict on the words of a well-formed set, with a byte of scratch for each vector. A word at which the same constraints are active as at a good word
-// before it is good.
-fn judge_words(set: Set, marks: &mut [u8]) -> Verdict
-    requires { ⌜ (wellFormed set ≡ true) × (length (now marks) ≡ scratchBytes (set .n)) ⌝ }
-    ensures { λ r. ⌜ r ≡ judgeWords set ⌝ }
+// The first word that fails, and how, with a byte of scratch for each vector: document 01's loops. A word at which the same constraints are active as at a good
+// word before it is good.
+fn judge_words(set: Set, seen: &mut [u64; PLACES], marks: &mut [u8]) -> Verdict
+    requires { ⌜ (wellFormed set ≡ true) × (length (now marks) ≡ scratchBytes (set .n)) × Known set (fails set) (now seen) ⌝ }
+    ensures { λ r. ⌜ r ≡ firstFailing set ⌝ }
+    ensures { λ r. ⌜ Known set (fails set) (now (seen .exit)) ⌝ }
 {
     let words = 1u32 << set.r;
     let requests = 1u16 << set.n;
     let by = columns_of(set);
-    let mut seen = [0u64; PLACES];
     let mut any = true;
     let mut w: u32 = 0;
     let mut g: u16 = 0;
     'words: while w < words {
         let active = active_at(&by.read_plain, &by.read_named, set.m, w);
-        if is_seen(&seen, active) {
+        if is_seen(seen, active) {
             w = w + 1;
             continue 'words;
         }
@@ -78,10 +82,27 @@ fn judge_words(set: Set, marks: &mut [u8]) -> Verdict
             }
             g = g + 1;
         }
-        keep_seen(&mut seen, active);
+        keep_seen(&mut *seen, active);
         w = w + 1;
     }
     told_by(words, any, w, g)
+}
+
+// The verdict by the first word that fails: an endless walk there gives way to a later word without a safe vector, where no change of ranks would help.
+fn revise(set: Set, found: Verdict, seen: &mut [u64; PLACES]) -> Verdict
+    requires { ⌜ (wellFormed set ≡ true) × (found ≡ firstFailing set) × Known set (lacks set) (now seen) ⌝ }
+    ensures { λ r. ⌜ r ≡ judgeWords set ⌝ }
+{
+    match found {
+        Verdict::NoEnd { word, request: _ } => {
+            let without = first_without(set, word + 1, seen);
+            if without < 1u32 << set.r {
+                return Verdict::NoVector { word: without };
+            }
+            found
+        }
+        _ => found,
+    }
 }
 
 // The verdict on a set, with scratch of at least `scratchBytes n` bytes, one for each vector: of those the content afterwards is free, later bytes are untouched.
@@ -96,5 +117,7 @@ pub fn judge(set: Set, scratch: &mut [u8]) -> Verdict
     if scratch.len() < vectors {
         return Verdict::ShortScratch;
     }
-    judge_words(set, &mut scratch[0..vectors])
+    let mut seen = [0u64; PLACES];
+    let found = judge_words(set, &mut seen, &mut scratch[0..vectors]);
+    revise(set, found, &mut seen)
 }

@@ -28,29 +28,31 @@ use Rattle.scan.proofs.ShapeLaws.{counts}
 use Rattle.scan.proofs.ActiveLaws.{made-active}
 use Rattle.scan.proofs.TableLaws.{made-table}
 use Rattle.verdict.specs.declared.verdict.Verdict.the-variants.{Accepted, NoVector, NoEnd}
-use Rattle.verdict.specs.Judge.{endless, fails}
+use Rattle.verdict.specs.Judge.{endless}
+use Rattle.verdict.specs.FirstFailing.{fails, firstFailing}
+use Rattle.verdict.specs.way.Seen.{Known}
 use Rattle.verdict.specs.way.Left.{verdictBy}
 use Rattle.verdict.proofs.JudgeLaws.{scratch-is}
-use Rattle.verdict.proofs.MeaningLaws.{judge-accepted, judge-no-vector, judge-no-end, passes}
+use Rattle.verdict.proofs.FirstFailingLaws.{judge-accepted, judge-no-vector, judge-no-end, passes}
 use Rattle.verdict.proofs.WordMarks.{Ready, marked-safe, settled-request}
-use Rattle.verdict.proofs.SeenLaws.{Known, known-none, known-hit, known-more}
+use Rattle.verdict.proofs.SeenLaws.{known-hit, known-more, fails-alike}
 use borrow.Author.Needs.{needs}
 use Rattle.verdict.proofs.verdict.judge_words.Statement.{statement}
 use Rattle.verdict.proofs.verdict.judge_words.Tie as tie
 
 abbrev Inv-loop : tie.InvT-loop
-Inv-loop set marks₀ words requests l seen any w g₀ active t f0 f1 limit count marks g =
+Inv-loop set seen marks₀ words requests l any w g₀ active t f0 f1 limit count marks g =
     (g ≤ requests) × Ready set w marks × (some g (endless set w) ≡ false)
 
 abbrev μ-loop : tie.MeasureT-loop
-μ-loop set marks₀ words requests l seen any w g₀ active t f0 f1 limit count marks g = requests - g
+μ-loop set seen marks₀ words requests l any w g₀ active t f0 f1 limit count marks g = requests - g
 
 abbrev Inv-words : tie.InvT-words
-Inv-words set marks₀ words requests l seen₀ any₀ w₀ g₀ marks seen any w g =
-    (words ≡ 2 ^ set .r) × (requests ≡ 2 ^ set .n) × (w ≤ words) × (length marks ≡ 2 ^ set .n) × (some w (fails set) ≡ false) × Known set seen
+Inv-words set seen₀ marks₀ words requests l any₀ w₀ g₀ seen marks any w g =
+    (words ≡ 2 ^ set .r) × (requests ≡ 2 ^ set .n) × (w ≤ words) × (length marks ≡ 2 ^ set .n) × (some w (fails set) ≡ false) × Known set (fails set) seen
 
 abbrev μ-words : tie.MeasureT-words
-μ-words set marks₀ words requests l seen₀ any₀ w₀ g₀ marks seen any w g = words - w
+μ-words set seen₀ marks₀ words requests l any₀ w₀ g₀ seen marks any w g = words - w
 
 few : (c : tie.Start Inv-loop μ-loop Inv-words μ-words) → (c .args .set .r ≤ mostReads) × (c .args .set .n ≤ mostOutputs)
 few c = let n = counts (c .args .set) (c .pre .0) in (n .r-le, n .n-le)
@@ -79,7 +81,7 @@ words-holds c =
       omega arith,
       s .pre .1 ∙ scratch-is (s .args .set .n),
       some-none _,
-      known-none (s .args .set) (s .pre .0),
+      s .pre .2,
     )
 
 active-at-requires : tie.Need-active-at-requires Inv-loop μ-loop Inv-words μ-words
@@ -153,7 +155,7 @@ words-again c =
       omega arith,
       o .words .inv .3,
       some-miss _ (o .words .w) (o .words .inv .4)
-          (known-hit (set o) (formed o) (o .words .seen) (o .words .inv .5) (o .words .w) (a .active-at .result) (active-told a)
+          (known-hit (set o) (fails (set o)) (o .words .seen) (o .words .inv .5) (o .words .w) (a .active-at .result) (active-told a)
           (sym (i .is-seen .ensures) ∙ c .if1 .taken)),
       o .words .inv .5,
     )
@@ -279,7 +281,7 @@ words-again-2 c =
       omega arith,
       last c .loop .inv .1 .long,
       some-miss _ (o .words .w) (o .words .inv .4) (passed c),
-      known-more (set o) (formed o) (o .words .seen) (o .words .inv .5) (o .words .w) (a .active-at .result) (active-told a) (passed c) _ (c .keep-seen .ensures),
+      known-more (set o) (fails (set o)) (fails-alike (set o) (formed o)) (o .words .seen) (o .words .inv .5) (o .words .w) (a .active-at .result) (active-told a) (passed c) _ (c .keep-seen .ensures),
     )
 
 -- ---- where the loops were left
@@ -338,8 +340,8 @@ module _ (words : ℕ) (any : Bool) (w g : ℕ) where
   by-never : w < words → any ≡ true → verdictBy words any w g ≡ NoEnd w g
   by-never h e = rw (lt-leb words w h, e)
 
-returns : tie.Need-returns Inv-loop μ-loop Inv-words μ-words
-returns c =
+answer : (c : tie.After-told-by Inv-loop μ-loop Inv-words μ-words) → c .told-by .result ≡ firstFailing (set (c .before .before))
+answer c =
     let l = c .before in
     let o = l .before in
     let words : ℕ = 2 ^ set o .r in
@@ -355,6 +357,9 @@ returns c =
     (λ n h a v f b e.
     by-never words (l .words-test .any) (o .words .w) (l .words-test .g) h a
     ∙ sym (judge-no-end (set o) (o .words .w) (l .words-test .g) h (before o) v f (some-false-at (l .words-test .g) (endless (set o) (o .words .w)) b) e))
+
+returns : tie.Need-returns Inv-loop μ-loop Inv-words μ-words
+returns c = (answer c, c .before .before .words .inv .5)
 
 pub judge-words-spec : {M : Type 1} → statement M
 judge-words-spec =
