@@ -1,4 +1,4 @@
--- The worked cases hold, by computation: document 01's starred ones, and those for what they leave open.
+-- The worked cases hold, by computation: document 01's starred ones, those for what they leave open, and those of change request K5.
 -- Assumes nothing.
 use mathlib.Core.Path.{refl}
 use lib.Count.{onesIn}
@@ -16,21 +16,22 @@ use Rattle.shape.specs.Finding.{findPadded, findOf}
 use Rattle.machine.specs.Past.{readingAt, readWord}
 use Rattle.machine.specs.Machine.{stateOk, isPast, sensorOk, requestOk, scanOf}
 use Rattle.machine.specs.History.{run}
-use Rattle.verdict.specs.Judge.{endless, fails, rejectionBy, rejection, verdictAt, judgeWords, scratchBytes, judgeOf}
+use Rattle.verdict.specs.Judge.{endless, lacks, hasEndless, vectorAt, endlessAt, judgeWords, scratchBytes, judgeOf}
+use Rattle.verdict.specs.FirstFailing.{fails, rejectionBy, rejection, verdictAt, firstFailing}
 use Rattle.start.specs.Start.{startOf}
 use Rattle.header.specs.Header.{rawOf, headerOf}
 use Rattle.literal.specs.Literal.{narrows, withLiteral, literalsFrom}
 use Rattle.loader.specs.Load.{countsAt, nameField, kindOf, readField, readOf, readAt, readsFrom, outputOf, outputAt, outputsFrom, constraintAt, constraintsFrom, loadFrom, loadOf}
 use Rattle.decimal.specs.Decimal.{leading, decimal}
 use Rattle.text.specs.Text.{readLiteral, outputLiteral, neverLine, shownLines, spacedWords, linesText, textOf}
-use Rattle.promise.specs.Cases.{AllAnswered, starred, further, scanCases, findCases, textCases}
+use Rattle.promise.specs.Cases.{AllAnswered, starred, further, orderCases, scanCases, findCases, textCases}
 
 pub starred-hold : AllAnswered starred
 unfolding onesIn odd bit without meets popcount gather bitIf word some all firstFrom first zeroSet constraint kind nameByte nameLength placeOk nameOk
     nameZero sameName readNamed firstRead outputNamed firstOutput countTests lengthTests kindOk readOk readZero readPlace outputOk outputPlace rankOk
     constraintTests constraintZero constraintPlace setTests wellFormed readsTrue outsTrue isTrue simple combined trueAt safe holding toZero toOne F0
     F1 unheldBy unheld unheldCount startFrom startVector lowest hasRank yielding yields fires flips pass walkBy walk readingAt readWord stateOk isPast
-    sensorOk requestOk scanOf run hasVector endless fails rejectionBy rejection verdictAt judgeWords scratchBytes judgeOf startOf
+    sensorOk requestOk scanOf run hasVector endless lacks hasEndless vectorAt endlessAt judgeWords scratchBytes judgeOf startOf
 starred-hold = refl
 
 pub further-hold : AllAnswered further
@@ -38,10 +39,20 @@ unfolding onesIn odd bit without meets popcount gather bitIf word some all first
     nameZero sameName readNamed firstRead outputNamed firstOutput countTests lengthTests kindOk readOk readZero readPlace outputOk outputPlace rankOk
     constraintTests constraintZero constraintPlace setTests wellFormed readsTrue outsTrue isTrue simple combined trueAt safe holding toZero toOne F0
     F1 unheldBy unheld unheldCount startFrom startVector lowest hasRank yielding yields fires flips pass walkBy walk readingAt readWord stateOk isPast
-    sensorOk requestOk scanOf run hasVector endless fails rejectionBy rejection verdictAt judgeWords scratchBytes judgeOf startOf
+    sensorOk requestOk scanOf run hasVector endless lacks hasEndless vectorAt endlessAt judgeWords scratchBytes judgeOf startOf
     rawOf headerOf spelling nameField kindOf readField readOf readAt readsFrom outputOf outputAt outputsFrom narrows withLiteral literalsFrom constraintAt
     constraintsFrom countsAt loadFrom loadOf allNameBytes isUsed
 further-hold = refl
+
+pub orders-worked : AllAnswered orderCases
+unfolding onesIn odd bit without meets popcount gather bitIf word some all firstFrom first zeroSet constraint kind nameByte nameLength placeOk nameOk
+    nameZero sameName readNamed firstRead outputNamed firstOutput countTests lengthTests kindOk readOk readZero readPlace outputOk outputPlace rankOk
+    constraintTests constraintZero constraintPlace setTests wellFormed readsTrue outsTrue isTrue simple combined trueAt safe holding toZero toOne F0
+    F1 unheldBy unheld unheldCount startFrom startVector lowest hasRank yielding yields fires flips pass walkBy walk readingAt readWord stateOk isPast
+    sensorOk requestOk scanOf run hasVector endless lacks hasEndless vectorAt endlessAt judgeWords fails rejectionBy rejection verdictAt firstFailing scratchBytes judgeOf startOf
+    rawOf headerOf spelling nameField kindOf readField readOf readAt readsFrom outputOf outputAt outputsFrom narrows withLiteral literalsFrom constraintAt
+    constraintsFrom countsAt loadFrom loadOf allNameBytes isUsed
+orders-worked = refl
 
 pub scans-worked : AllAnswered scanCases
 unfolding onesIn odd bit without meets popcount gather bitIf word some all firstFrom first zeroSet constraint kind nameByte allNameBytes nameLength

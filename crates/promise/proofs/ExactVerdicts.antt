@@ -32,14 +32,14 @@ told-accepted ShortScratch e = apart 21 0 [] [] refl e
 told-accepted (NoVector w) e = apart 22 0 (w ∷ []) [] refl e
 told-accepted (NoEnd w g) e = apart 23 0 (w ∷ g ∷ []) [] refl e
 
-told-word : (v : Verdict) (w : ℕ) → verdictTold v ≡ 22 ∷ w ∷ [] → v ≡ NoVector w
+pub told-word : (v : Verdict) (w : ℕ) → verdictTold v ≡ 22 ∷ w ∷ [] → v ≡ NoVector w
 told-word Accepted w e = apart 0 22 [] (w ∷ []) refl e
 told-word BadSet w e = apart 20 22 [] (w ∷ []) refl e
 told-word ShortScratch w e = apart 21 22 [] (w ∷ []) refl e
 told-word (NoVector u) w e = let f : u ≡ w = cc in ap NoVector f
 told-word (NoEnd u g) w e = apart 23 22 (u ∷ g ∷ []) (w ∷ []) refl e
 
-told-request : (v : Verdict) (w g : ℕ) → verdictTold v ≡ 23 ∷ w ∷ g ∷ [] → v ≡ NoEnd w g
+pub told-request : (v : Verdict) (w g : ℕ) → verdictTold v ≡ 23 ∷ w ∷ g ∷ [] → v ≡ NoEnd w g
 told-request Accepted w g e = apart 0 23 [] (w ∷ g ∷ []) refl e
 told-request BadSet w g e = apart 20 23 [] (w ∷ g ∷ []) refl e
 told-request ShortScratch w g e = apart 21 23 [] (w ∷ g ∷ []) refl e
@@ -49,35 +49,35 @@ told-request (NoEnd u h) w g e = cc
 -- ---- the verdict
 
 module _ (s : Set) (ok : wellFormed s ≡ true) where
-  vector-iff : (w : ℕ) → HasSafe s w ↔ HasVector s w
+  pub vector-iff : (w : ℕ) → HasSafe s w ↔ HasVector s w
   vector-iff w = (λ a. (a .0, a .1, safe-iff s ok w (a .0) .0 (a .2)), λ a. (a .0, a .1, safe-iff s ok w (a .0) .1 (a .2)))
 
-  good-iff : (w : ℕ) → Good s w ↔ GoodWord s w
+  pub good-iff : (w : ℕ) → Good s w ↔ GoodWord s w
   good-iff w = (
     λ g. record { vector = vector-iff w .0 (g .vector); ends = λ request h. ends-iff s ok w request .0 (g .ends request h) },
     λ g. record { vector = vector-iff w .1 (g .vector); ends = λ request h. ends-iff s ok w request .1 (g .ends request h) },
   )
 
-  without-iff : (w : ℕ) → FirstWithout s w ↔ FirstNoVector s w
+  pub without-iff : (w : ℕ) → FirstWithout s w ↔ FirstNoVector s w
   without-iff w = (
-    λ f. record { within = f .within; before = λ u h. good-iff u .0 (f .before u h); none = λ a. f .none (vector-iff w .1 a) },
-    λ f. record { within = f .within; before = λ u h. good-iff u .1 (f .before u h); none = λ a. f .none (vector-iff w .0 a) },
+    λ f. record { within = f .within; before = λ u h. vector-iff u .0 (f .before u h); none = λ a. f .none (vector-iff w .1 a) },
+    λ f. record { within = f .within; before = λ u h. vector-iff u .1 (f .before u h); none = λ a. f .none (vector-iff w .0 a) },
   )
 
   endless-iff : (w g : ℕ) → FirstEndless s w g ↔ FirstNoEnd s w g
   endless-iff w g = (
     λ f. record {
       within = f .within;
-      before = λ u h. good-iff u .0 (f .before u h);
-      vector = vector-iff w .0 (f .vector);
+      vectors = λ u h. vector-iff u .0 (f .vectors u h);
+      before = λ u h request l. ends-iff s ok u request .0 (f .before u h request l);
       fits = f .fits;
       ends = λ request h. ends-iff s ok w request .0 (f .ends request h);
       never = λ a. f .never (ends-iff s ok w g .1 a);
     },
     λ f. record {
       within = f .within;
-      before = λ u h. good-iff u .1 (f .before u h);
-      vector = vector-iff w .1 (f .vector);
+      vectors = λ u h. vector-iff u .1 (f .vectors u h);
+      before = λ u h request l. ends-iff s ok u request .1 (f .before u h request l);
       fits = f .fits;
       ends = λ request h. ends-iff s ok w request .1 (f .ends request h);
       never = λ a. f .never (ends-iff s ok w g .0 a);
@@ -94,7 +94,7 @@ module _ (s : Set) (room : ℕ) (ok : wellFormed s ≡ true) (enough : scratchBy
   pub means : (v : Verdict) → judgeOf s room ≡ v → Means s v
   means v e = subst (Means s) e (verdict-means s ok room enough)
 
-  is : (v : Verdict) → Means s v → judgeOf s room ≡ v
+  pub is : (v : Verdict) → Means s v → judgeOf s room ≡ v
   is = verdict-of s ok room enough
 
   pub exact-verdict : ExactVerdict s room

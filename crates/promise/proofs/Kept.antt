@@ -51,6 +51,7 @@ use Rattle.promise.proofs.LinesSay.{printed-says}
 use Rattle.promise.proofs.OneText.{one-set, one-text}
 use Rattle.promise.proofs.TextRefusals.{text-refusals}
 use Rattle.promise.proofs.ExactVerdicts.{told-accepted, exact-verdict, exact-start}
+use Rattle.promise.proofs.OneGroups.{one-group}
 use Rattle.promise.proofs.ScanLists.{sends-mean, right-scans}
 use Rattle.promise.proofs.PowerUps.{power-up}
 use Rattle.promise.proofs.OneWords.{by-active}
@@ -136,6 +137,7 @@ pub demand-3 : Demand3
 unfolding startOf
 demand-3 = record {
   verdict = exact-verdict;
+  one-group = λ s room ok enough. one-group s ok room enough;
   start = exact-start;
   scans = λ s room e calls. right-scans s room (told-accepted (judgeOf s room) e) calls;
 }

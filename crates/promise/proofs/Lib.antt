@@ -21,6 +21,7 @@ pub mod NameMeanings
 pub mod PlaceMeanings
 pub mod LoneRankMeanings
 pub mod ExactVerdicts
+pub mod OneGroups
 pub mod ScanLists
 pub mod WrittenFields
 pub mod BodyLiterals

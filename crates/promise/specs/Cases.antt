@@ -1,5 +1,5 @@
--- Worked cases: the starred ones of document 01's "Tried by hand", the edge case as change request K2 has it, and those for what they leave open, some of
--- them from the bytes of a file.
+-- Worked cases: the starred ones of document 01's "Tried by hand", the edge case as change request K2 has it, those for what they leave open, some of
+-- them from the bytes of a file, and those of change request K5.
 -- Assumes nothing.
 use Prim.Native.Nat.{ℕ, _^_}
 use mathlib.Core.Path.{_≡_}
@@ -9,6 +9,7 @@ use lib.ListN.{take, replicate}
 use Rattle.words.specs.Word.{bit}
 use Rattle.scan.specs.declared.set.Kind.the-variants.{Sensor, PastSensor}
 use Rattle.scan.specs.declared.set.ReadPoint.{ReadPoint}
+use Rattle.scan.specs.declared.set.Constraint.{Constraint}
 use Rattle.scan.specs.declared.set.Set.{Set}
 use Rattle.scan.specs.declared.set.State.{State}
 use Rattle.scan.specs.Set.{zeroSet, stateOf, freshState}
@@ -17,8 +18,9 @@ use Rattle.shape.specs.Finding.{findOf}
 use Rattle.shape.specs.Told.{findTold}
 use Rattle.machine.specs.History.{Call, run}
 use Rattle.machine.specs.Told.{scanTold}
-use Rattle.scan.specs.Samples.{name7, name07, name007, setP, P, sensorS, nameA, readOf, setOf, product, clashing, endless, equalRanks, twoPairs, risingEdge, forcedOn, afterB, threePasses}
+use Rattle.scan.specs.Samples.{name7, name07, name007, setP, P, sensorS, nameA, nameB, readOf, setOf, product, clashing, endless, equalRanks, twoPairs, risingEdge, forcedOn, afterB, threePasses}
 use Rattle.verdict.specs.Judge.{judgeOf}
+use Rattle.verdict.specs.FirstFailing.{firstFailing}
 use Rattle.start.specs.Start.{startOf}
 use Rattle.verdict.specs.Told.{verdictTold}
 use Rattle.loader.specs.Load.{loadOf}
@@ -34,6 +36,8 @@ pub data Case : Type 0 where
   scansOf : State → List Call → List (List ℕ) → Case
   -- the verdict and the start, with so many bytes of scratch, say so
   judged : Set → ℕ → List ℕ → Case
+  -- the verdict in document 01's order, and then the verdict and the start, with scratch enough, say so
+  reordered : Set → List ℕ → List ℕ → Case
   -- f at a read word
   free : Set → ℕ → ℕ → Case
   -- at the read word w output k is held
@@ -60,6 +64,7 @@ abbrev pub answered : Case → List (List ℕ)
 answered (scans s calls told) = started s calls
 answered (scansOf st calls told) = map scanTold (run st calls)
 answered (judged s room told) = verdictTold (judgeOf s room) ∷ verdictTold (startOf s room .verdict) ∷ []
+answered (reordered s was told) = verdictTold (firstFailing s) ∷ verdictTold (judgeOf s (enough s)) ∷ verdictTold (startOf s (enough s) .verdict) ∷ []
 answered (free s w f) = (unheldCount s w ∷ []) ∷ []
 answered (held s w k) = (cond (bit k (F0 s w) || bit k (F1 s w)) 1 0 ∷ []) ∷ []
 answered (finds s bytes told) = findTold (findOf s bytes) ∷ []
@@ -72,6 +77,7 @@ abbrev pub expected : Case → List (List ℕ)
 expected (scans s calls told) = (0 ∷ []) ∷ told
 expected (scansOf st calls told) = told
 expected (judged s room told) = told ∷ told ∷ []
+expected (reordered s was told) = was ∷ told ∷ told ∷ []
 expected (free s w f) = (f ∷ []) ∷ []
 expected (held s w k) = (1 ∷ []) ∷ []
 expected (finds s bytes told) = told ∷ []
@@ -198,6 +204,50 @@ further =
     ∷ runs fileOfKinds
     (call 3 7 ∷ call 1 6 ∷ call 3 7 ∷ call 3 7 ∷ call 8 0 ∷ call 2 7 ∷ call 3 8 ∷ call 3 1 ∷ [])
     (sent 5 1 ∷ sent 6 0 ∷ sent 2 0 ∷ sent 1 1 ∷ no 31 ∷ sent 5 0 ∷ no 32 ∷ sent 1 0 ∷ [])
+    ∷ []
+
+-- ---- change request K5
+
+-- the pair of constraints whose walk from A alone never is safe, where the read literals are true: "A and not B", "A and B", B of rank 0 and A of rank 1 in both
+abbrev pub circling : ℕ → ℕ → List Constraint
+circling plain negated = product plain negated 1 2 (1 ∷ 0 ∷ []) ∷ product plain negated 3 0 (1 ∷ 0 ∷ []) ∷ []
+
+-- the pair that leaves no safe vector, where the read literals are true: "A", "not A"
+abbrev pub forbidding : ℕ → ℕ → List Constraint
+forbidding plain negated = product plain negated 1 0 [] ∷ product plain negated 0 1 [] ∷ []
+
+-- the outputs A and B, the sensors and the constraints
+abbrev pub setOfAB : List ReadPoint → List Constraint → Set
+setOfAB sensors constraints = setOf sensors (nameA ∷ nameB ∷ []) constraints
+
+-- a file, a field to a line: sensor s; outputs A and B; "A and not B", "A and B", B of rank 0 and A of rank 1 in both; "s and not A and B"; "s and not A and not B"
+abbrev pub fileOfOrder : List ℕ
+fileOfOrder =
+    0x01 ∷ 0x00 ∷ 0x02 ∷ 0x01 ∷ 0x02
+    ∷ 0x02 ∷ 0x00 ∷ 0x03 ∷ 0x00 ∷ 0x00 ∷ 0x73
+    ∷ 0x03 ∷ 0x00 ∷ 0x01 ∷ 0x41
+    ∷ 0x03 ∷ 0x00 ∷ 0x01 ∷ 0x42
+    ∷ 0x04 ∷ 0x00 ∷ 0x04 ∷ 0x40 ∷ 0x01 ∷ 0xC1 ∷ 0x00
+    ∷ 0x04 ∷ 0x00 ∷ 0x04 ∷ 0x40 ∷ 0x01 ∷ 0x41 ∷ 0x00
+    ∷ 0x04 ∷ 0x00 ∷ 0x06 ∷ 0x00 ∷ 0x00 ∷ 0xC0 ∷ 0x00 ∷ 0x41 ∷ 0x00
+    ∷ 0x04 ∷ 0x00 ∷ 0x06 ∷ 0x00 ∷ 0x00 ∷ 0xC0 ∷ 0x00 ∷ 0xC1 ∷ 0x00
+    ∷ 0x05 ∷ 0x00 ∷ 0x00
+    ∷ []
+
+-- missing vectors before endless walks: what the verdict was, and what it is
+abbrev pub orderCases : List Case
+orderCases =
+    -- an endless walk at word 0, no vector at word 1; from the bytes of a file, and by a pair that forbids A both ways
+    reordered (loadOf fileOfOrder .set) (23 ∷ 0 ∷ 1 ∷ []) (22 ∷ 1 ∷ [])
+    ∷ reordered (setOfAB (sensorS ∷ []) (circling 0 0 ++ forbidding 1 0)) (23 ∷ 0 ∷ 1 ∷ []) (22 ∷ 1 ∷ [])
+    -- an endless walk where s is off, no vector where t is on: the lowest word without one is 2, behind a good word, and so is word 3 without one
+    ∷ reordered (setOfAB (sensorS ∷ sensorT ∷ []) (circling 0 1 ++ forbidding 2 0)) (23 ∷ 0 ∷ 1 ∷ []) (22 ∷ 2 ∷ [])
+    -- 23 stays: an endless walk where s is on, and vectors at both words
+    ∷ reordered (setOfAB (sensorS ∷ []) (circling 1 0)) (23 ∷ 1 ∷ 1 ∷ []) (23 ∷ 1 ∷ 1 ∷ [])
+    -- 22 stays: no vector where s is off, an endless walk where it is on
+    ∷ reordered (setOfAB (sensorS ∷ []) (forbidding 0 1 ++ circling 1 0)) (22 ∷ 0 ∷ []) (22 ∷ 0 ∷ [])
+    -- and acceptance
+    ∷ reordered P (0 ∷ []) (0 ∷ [])
     ∷ []
 
 -- scans of states that no start gave

@@ -6,6 +6,7 @@ pub mod Column
 pub mod FileSays
 pub mod Texts
 pub mod Verdicts
+pub mod OneGroup
 pub mod Meanings
 pub mod Scans
 pub mod NeverTold

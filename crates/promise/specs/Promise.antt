@@ -4,7 +4,7 @@
 -- `findTold` give document 01's number of an answer, 0 for one that is no refusal, with its values.
 -- What the demands say of these is said in document 01's own terms, in bits, bytes and numbers (specs/Terms, Allowed, Verdicts, Scans, Column); where
 -- they name a definition that the code meets too (`after`, `vectorDue`, `passesDue`, `wordOf`, `readAfter`), specs/Meanings and specs/Scans say what it
--- is; specs/PowerUp has change request K2; and specs/FileSays says what stands in a file.
+-- is; specs/PowerUp has change request K2, specs/OneGroup K5; and specs/FileSays says what stands in a file.
 -- Every call ends: a function of Rattle that is proved returns.
 -- Assumes nothing.
 use mathlib.Core.Path.{_≡_}
@@ -40,6 +40,7 @@ use Rattle.promise.specs.FileSays.{FileSays}
 use Rattle.promise.specs.Lines.{LineSays}
 use Rattle.promise.specs.Texts.{Texts}
 use Rattle.promise.specs.Verdicts.{EndsSafe, GoodWord, BadWord, FirstNoVector, FirstNoEnd}
+use Rattle.promise.specs.OneGroup.{OneGroup}
 use Rattle.promise.specs.Scans.{SendsDue, EveryRight, StateOfList}
 use Rattle.promise.specs.NeverTold.{NeverTold}
 use Rattle.promise.specs.PowerUp.{PowerUp}
@@ -157,9 +158,9 @@ pub record ExactVerdict (s : Set) (room : ℕ) : Type 0 where
   pub rejects : (verdictTold (judgeOf s room) ≢ 0 ∷ []) ↔ ((w : ℕ) × (w < 2 ^ s .r) × BadWord s w)
   -- it is accepted exactly when every read word has a safe vector and every walk reaches one
   pub accepts : (verdictTold (judgeOf s room) ≡ 0 ∷ []) ↔ ((w : ℕ) → w < 2 ^ s .r → GoodWord s w)
-  -- 22 names w exactly when w is the first word that fails and has no safe vector
+  -- 22 names w exactly when w is the first word without a safe vector
   pub names-word : (w : ℕ) → (verdictTold (judgeOf s room) ≡ 22 ∷ w ∷ []) ↔ FirstNoVector s w
-  -- 23 names w and g exactly when w is the first word that fails, has a safe vector, and g is the first request whose walk never reaches one
+  -- 23 names w and g exactly when every word has a safe vector, w is the first with a request whose walk never reaches one, and g is the first such request
   pub names-request : (w g : ℕ) → (verdictTold (judgeOf s room) ≡ 23 ∷ w ∷ g ∷ []) ↔ FirstNoEnd s w g
 
 -- The start of any set, with scratch of any size.
@@ -188,6 +189,8 @@ pub record RightScans (s : Set) (room : ℕ) (calls : List Call) : Type 0 where
 -- Demand 3.
 pub record Demand3 : Type 0 where
   pub verdict : (s : Set) (room : ℕ) → wellFormed s ≡ true → scratchBytes (s .n) ≤ room → ExactVerdict s room
+  -- just one group of the answers in document 01's order changed
+  pub one-group : (s : Set) (room : ℕ) → wellFormed s ≡ true → scratchBytes (s .n) ≤ room → OneGroup s room
   pub start : (s : Set) (room : ℕ) → ExactStart s room
   pub scans : (s : Set) (room : ℕ) → verdictTold (startOf s room .verdict) ≡ 0 ∷ [] → (calls : List Call) → RightScans s room calls
 

@@ -1,4 +1,4 @@
--- What a verdict says of a well-formed set, document 01's "Verdict": no bound on the passes of a walk stands here.
+-- What a verdict says of a well-formed set, document 01's "Verdict" in the order of change request K5: no bound on the passes of a walk stands here.
 -- Assumes nothing.
 use mathlib.Core.Logic.{_⊎_}
 use Prim.Native.Nat.{ℕ, _^_, _<_}
@@ -23,17 +23,17 @@ pub record GoodWord (s : Set) (w : ℕ) : Type 0 where
 abbrev pub BadWord : Set → ℕ → Type 0
 BadWord s w = (¬ HasVector s w) ⊎ ((g : ℕ) × (g < 2 ^ s .n) × (¬ EndsSafe s w g))
 
--- w is the first word that fails, and has no safe vector
+-- w is the first word without a safe vector
 pub record FirstNoVector (s : Set) (w : ℕ) : Type 0 where
   pub within : w < 2 ^ s .r
-  pub before : (u : ℕ) → u < w → GoodWord s u
+  pub before : (u : ℕ) → u < w → HasVector s u
   pub none : ¬ HasVector s w
 
--- w is the first word that fails; it has a safe vector, and g is the first request whose walk never reaches one
+-- every word has a safe vector; w is the first with a request whose walk never reaches one, and g is the first such request
 pub record FirstNoEnd (s : Set) (w g : ℕ) : Type 0 where
   pub within : w < 2 ^ s .r
-  pub before : (u : ℕ) → u < w → GoodWord s u
-  pub vector : HasVector s w
+  pub vectors : (u : ℕ) → u < 2 ^ s .r → HasVector s u
+  pub before : (u : ℕ) → u < w → (request : ℕ) → request < 2 ^ s .n → EndsSafe s u request
   pub fits : g < 2 ^ s .n
   pub ends : (request : ℕ) → request < g → EndsSafe s w request
   pub never : ¬ EndsSafe s w g

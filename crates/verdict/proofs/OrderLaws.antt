@@ -15,26 +15,44 @@ use Rattle.verdict.specs.declared.verdict.Verdict.{Verdict}
 use Rattle.verdict.specs.declared.verdict.Verdict.the-variants.{Accepted, BadSet, ShortScratch, NoVector, NoEnd}
 use Rattle.verdict.specs.Judge.{lacks, judgeWords}
 use Rattle.verdict.specs.FirstFailing.{firstFailing}
-use Rattle.verdict.specs.Meaning.{FirstWithout, FailsWithout, FailsEndless, MeansFirst}
+use Rattle.verdict.specs.Meaning.{FailsWithout, FailsEndless, MeansFirst}
 use Rattle.verdict.proofs.WordTests.{has-lacks, lacks-has}
 use Rattle.verdict.proofs.FirstFailingLaws.{first-means}
-use Rattle.verdict.proofs.MeaningLaws.{judge-without, means-words}
+use Rattle.verdict.proofs.MeaningLaws.{means-words}
 
 module _ (s : Set) (ok : wellFormed s ≡ true) where
-  -- what an answer in document 01's order says of the set
+  -- ---- by what the first word that fails tells
+
+  -- 22 there stays
+  pub still-without : (w : ℕ) → FailsWithout s w → judgeWords s ≡ NoVector w
+  still-without w f = means-words s ok (NoVector w) (record { within = f .within; before = λ u h. f .before u h .vector; none = f .none })
+
+  -- 23 stays where every word has a safe vector
+  pub still-endless : (w g : ℕ) → FailsEndless s w g → ((u : ℕ) → u < 2 ^ s .r → HasSafe s u) → judgeWords s ≡ NoEnd w g
+  still-endless w g f vectors = means-words s ok (NoEnd w g) (record {
+    within = f .within;
+    vectors = vectors;
+    before = λ u h. f .before u h .ends;
+    fits = f .fits;
+    ends = f .ends;
+    never = f .never;
+  })
+
+  -- ---- by the answer that the loops found
+
   found-means : (v : Verdict) → v ≡ firstFailing s → MeansFirst s v
   found-means v e = subst (MeansFirst s) (sym e) (first-means s ok)
 
   -- any answer but 23 stays
-  stays : (v : Verdict) → MeansFirst s v → ((w g : ℕ) → v ≢ NoEnd w g) → v ≡ judgeWords s
-  stays Accepted m n = sym (means-words s ok Accepted m)
-  stays (NoVector w) m n = sym (means-words s ok (NoVector w) (record { within = m .within; before = λ u h. m .before u h .vector; none = m .none }))
-  stays (NoEnd w g) m n = absurd (n w g refl)
-  stays BadSet m n = absurd m
-  stays ShortScratch m n = absurd m
-
   pub found-stays : (v : Verdict) → v ≡ firstFailing s → ((w g : ℕ) → v ≢ NoEnd w g) → v ≡ judgeWords s
-  found-stays v e = stays v (found-means v e)
+  found-stays v e = go v (found-means v e)
+    where
+      go : (v : Verdict) → MeansFirst s v → ((w g : ℕ) → v ≢ NoEnd w g) → v ≡ judgeWords s
+      go Accepted m n = sym (means-words s ok Accepted m)
+      go (NoVector w) m n = sym (still-without w m)
+      go (NoEnd w g) m n = absurd (n w g refl)
+      go BadSet m n = absurd m
+      go ShortScratch m n = absurd m
 
   module _ (w g : ℕ) (e : NoEnd w g ≡ firstFailing s) where
     found : FailsEndless s w g
@@ -47,19 +65,8 @@ module _ (s : Set) (ok : wellFormed s ≡ true) where
     pub none-up-to : some (w + 1) (lacks s) ≡ false
     none-up-to = some-miss (lacks s) w (some-false w (lacks s) (λ u h. has-lacks s u (found .before u h .vector))) (has-lacks s w (found .vector))
 
-    -- 23 gives way to a first word without one
-    pub gives-way : (u : ℕ) → u ≡ first (2 ^ s .r) (lacks s) → u < 2 ^ s .r → NoVector u ≡ judgeWords s
-    gives-way u eu h = sym (judge-without s u eu h)
-
-    -- and stays where there is none
+    -- 23 stays where the search came to no word without one
     pub stays-endless : (u : ℕ) → u ≡ first (2 ^ s .r) (lacks s) → 2 ^ s .r ≤ u → NoEnd w g ≡ judgeWords s
     stays-endless u eu h =
         let f = subst (First (2 ^ s .r) (lacks s)) (sym eu) (first-spec (2 ^ s .r) (lacks s)) in
-        sym (means-words s ok (NoEnd w g) (record {
-          within = found .within;
-          vectors = λ k l. lacks-has s k (f .before k (omega arith));
-          before = λ k l. found .before k l .ends;
-          fits = found .fits;
-          ends = found .ends;
-          never = found .never;
-        }))
+        sym (still-endless w g found (λ k l. lacks-has s k (f .before k (omega arith))))

@@ -24,6 +24,9 @@ module _ (s : Set) where
   unfolding hasVector
   vector-of w e = some-at (2 ^ s .n) (safe s w) e
 
+  pub vector-or-none : (w : ℕ) → Dec (HasSafe s w)
+  vector-or-none w = by-test (hasVector s w) (λ e. yes (vector-of w e)) (λ e. no (λ h. clash (has-vector w h) e))
+
   pub no-vector : (w : ℕ) → (¬ HasSafe s w) → hasVector s w ≡ false
   no-vector w n = by-test (hasVector s w) (λ e. absurd (n (vector-of w e))) (λ e. e)
 

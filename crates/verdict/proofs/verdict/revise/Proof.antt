@@ -17,7 +17,8 @@ use Rattle.verdict.specs.declared.verdict.Verdict.{Verdict}
 use Rattle.verdict.specs.declared.verdict.Verdict.the-variants.{NoEnd}
 use Rattle.verdict.proofs.verdict.Verdict.{the-type}
 use Rattle.verdict.specs.FirstFailing.{firstFailing}
-use Rattle.verdict.proofs.OrderLaws.{found-stays, found-within, none-up-to, gives-way, stays-endless}
+use Rattle.verdict.proofs.MeaningLaws.{judge-without}
+use Rattle.verdict.proofs.OrderLaws.{found-stays, found-within, none-up-to, stays-endless}
 use borrow.Author.Needs.{needs}
 use Rattle.verdict.proofs.verdict.revise.Statement.{statement}
 use Rattle.verdict.proofs.verdict.revise.Tie as tie
@@ -75,7 +76,7 @@ returns : tie.Need-returns
 returns c =
     let w = c .before .before in
     let f = w .before .before .before in
-    gives-way (set f) (formed f) (word f) (request f) (found f) (w .first-without .result) (w .first-without .ensures) (omega (arith, words-is f, c .if1 .taken))
+    sym (judge-without (set f) (w .first-without .result) (w .first-without .ensures) (omega (arith, words-is f, c .if1 .taken)))
 
 returns-2 : tie.Need-returns-2
 returns-2 c =
