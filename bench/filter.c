@@ -352,22 +352,40 @@ static size_t place_of(uint64_t active)
     return active % PLACES;
 }
 
-static struct verdict judge(const struct set *s, uint8_t *scratch, size_t len)
+static bool is_any_safe(const struct table *t, size_t vectors)
 {
-    if (!is_well_formed(s))
-        return (struct verdict){ 20, 0, 0 };
-    size_t vectors = (size_t)1 << s->n;
-    if (len < vectors)
-        return (struct verdict){ 21, 0, 0 };
-    struct literals l;
-    make_literals(s, &l);
-    uint64_t seen[PLACES] = { 0 };
-    for (uint32_t w = 0; w < (uint32_t)1 << s->r; w++) {
-        uint64_t active = active_at(&l, s->m, w);
+    for (size_t v = 0; v < vectors; v++)
+        if (is_safe(t, (uint16_t)v))
+            return true;
+    return false;
+}
+
+// The first word from w on without a safe vector, or 2^r. The masks kept are of words that have one.
+static uint32_t first_without(const struct set *s, const struct literals *l, uint32_t w, uint64_t *seen)
+{
+    for (; w < (uint32_t)1 << s->r; w++) {
+        uint64_t active = active_at(l, s->m, w);
         if (seen[place_of(active)] == active)
             continue;
         struct table t;
-        build(s, &l, active, &t);
+        build(s, l, active, &t);
+        if (!is_any_safe(&t, (size_t)1 << s->n))
+            return w;
+        seen[place_of(active)] = active;
+    }
+    return w;
+}
+
+// The first word that fails, and how.
+static struct verdict judge_words(const struct set *s, const struct literals *l, uint64_t *seen, uint8_t *scratch)
+{
+    size_t vectors = (size_t)1 << s->n;
+    for (uint32_t w = 0; w < (uint32_t)1 << s->r; w++) {
+        uint64_t active = active_at(l, s->m, w);
+        if (seen[place_of(active)] == active)
+            continue;
+        struct table t;
+        build(s, l, active, &t);
         if (!mark_safe(&t, scratch, vectors))
             return (struct verdict){ 22, w, 0 };
         for (size_t g = 0; g < vectors; g++)
@@ -376,6 +394,22 @@ static struct verdict judge(const struct set *s, uint8_t *scratch, size_t len)
         seen[place_of(active)] = active;
     }
     return (struct verdict){ 0, 0, 0 };
+}
+
+static struct verdict judge(const struct set *s, uint8_t *scratch, size_t len)
+{
+    if (!is_well_formed(s))
+        return (struct verdict){ 20, 0, 0 };
+    if (len < (size_t)1 << s->n)
+        return (struct verdict){ 21, 0, 0 };
+    struct literals l;
+    make_literals(s, &l);
+    uint64_t seen[PLACES] = { 0 };
+    struct verdict found = judge_words(s, &l, seen, scratch);
+    if (found.number != 23)
+        return found;
+    uint32_t without = first_without(s, &l, found.word + 1, seen);
+    return without < (uint32_t)1 << s->r ? (struct verdict){ 22, without, 0 } : found;
 }
 
 // The state of an accepted set, and a state of zeros of any other.

@@ -40,6 +40,19 @@ def falling(r, n, m, read_literals, seed):
     return Set(names(b"s", r), names(b"a", n), constraints)
 
 
+def circling_at_word_0(r, n, m, turn_on, seed):
+    """The constraints of `falling` on the outputs but the last two, and a pair that is active at word 0 alone and makes the walk from the last
+    output but one go round: 23 at word 0. With `turn_on` plain and negated are exchanged, so that passes only turn outputs on, and a safe vector is
+    found late."""
+    falls = falling(r, n - 2, m - 2, 1, seed)
+    if turn_on:
+        falls.constraints = [[(k, out, neg ^ out, rank) for k, out, neg, rank in c] for c in falls.constraints]
+    a, b = n - 2, n - 1
+    off = [(k, False, True, 0) for k in range(r)]
+    pair = [off + [(a, True, False, 1), (b, True, negated, 0)] for negated in (True, False)]
+    return Set(falls.reads, names(b"a", n), falls.constraints + pair)
+
+
 def counter(n, splits):
     """A pass adds 1 to the vector: for each k a constraint "outputs below k on, k off" flips these k + 1 outputs, all of rank 0. Only the vector
     with all outputs on is safe, so that the walk from 0 takes 2^n - 1 passes. The constraint of k is split by the values of the splits[k] outputs

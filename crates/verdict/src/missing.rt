@@ -36,5 +36,5 @@ pub fn first_without(set: Set, from: u32, seen: &mut [u64; PLACES]) -> u32
         }
         w = w + 1;
     }
-    words
+    w
 }

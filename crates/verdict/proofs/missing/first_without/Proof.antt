@@ -167,7 +167,7 @@ returns-2 : tie.Need-returns-2 Inv-loop μ-loop
 returns-2 c =
     let o = c .before in
     let all : o .loop .w ≡ 2 ^ set o .r = omega (arith, o .loop .inv .0, o .loop .inv .2, c .loop-test .left) in
-    o .loop .inv .0 ∙ sym (first-none (2 ^ set o .r) (lacks (set o)) (λ u h. before o u (omega (arith, all))))
+    all ∙ sym (first-none (2 ^ set o .r) (lacks (set o)) (λ u h. before o u (omega (arith, all))))
 
 pub first-without-spec : {M : Type 1} → statement M
 first-without-spec =
