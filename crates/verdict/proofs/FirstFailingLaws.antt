@@ -22,23 +22,23 @@ use Rattle.verdict.proofs.WordTests.{has-vector, vector-of, no-vector, 
 module _ (s : Set) where
   -- ---- by its tests: what the nested loops over words and requests need
 
-  pub judge-accepted : ((w : ℕ) → w < 2 ^ s .r → fails s w ≡ false) → firstFailing s ≡ Accepted
+  pub first-accepted : ((w : ℕ) → w < 2 ^ s .r → fails s w ≡ false) → firstFailing s ≡ Accepted
   unfolding firstFailing verdictAt
-  judge-accepted f = ap (verdictAt s) (first-none (2 ^ s .r) (fails s) f) ∙ rw (le-ltb (2 ^ s .r) (2 ^ s .r) (omega arith))
+  first-accepted f = ap (verdictAt s) (first-none (2 ^ s .r) (fails s) f) ∙ rw (le-ltb (2 ^ s .r) (2 ^ s .r) (omega arith))
 
-  judge-rejected : (w : ℕ) → w < 2 ^ s .r → ((u : ℕ) → u < w → fails s u ≡ false) → fails s w ≡ true → firstFailing s ≡ rejection s w
+  first-rejected : (w : ℕ) → w < 2 ^ s .r → ((u : ℕ) → u < w → fails s u ≡ false) → fails s w ≡ true → firstFailing s ≡ rejection s w
   unfolding firstFailing verdictAt
-  judge-rejected w h b e = ap (verdictAt s) (first-is (2 ^ s .r) w (fails s) h e b) ∙ rw (lt-ltb w (2 ^ s .r) h)
+  first-rejected w h b e = ap (verdictAt s) (first-is (2 ^ s .r) w (fails s) h e b) ∙ rw (lt-ltb w (2 ^ s .r) h)
 
-  pub judge-no-vector : (w : ℕ) → w < 2 ^ s .r → ((u : ℕ) → u < w → fails s u ≡ false) → hasVector s w ≡ false → firstFailing s ≡ NoVector w
+  pub first-no-vector : (w : ℕ) → w < 2 ^ s .r → ((u : ℕ) → u < w → fails s u ≡ false) → hasVector s w ≡ false → firstFailing s ≡ NoVector w
   unfolding rejection rejectionBy fails
-  judge-no-vector w h b e = judge-rejected w h b (ap (λ (x : Bool). not x || some (2 ^ s .n) (endless s w)) e) ∙ rw e
+  first-no-vector w h b e = first-rejected w h b (ap (λ (x : Bool). not x || some (2 ^ s .n) (endless s w)) e) ∙ rw e
 
-  pub judge-no-end : (w g : ℕ) → w < 2 ^ s .r → ((u : ℕ) → u < w → fails s u ≡ false) → hasVector s w ≡ true
+  pub first-no-end : (w g : ℕ) → w < 2 ^ s .r → ((u : ℕ) → u < w → fails s u ≡ false) → hasVector s w ≡ true
       → g < 2 ^ s .n → ((k : ℕ) → k < g → endless s w k ≡ false) → endless s w g ≡ true → firstFailing s ≡ NoEnd w g
   unfolding rejection rejectionBy fails
-  judge-no-end w g h b v fits before e =
-      judge-rejected w h b (ap₂ (λ (x y : Bool). not x || y) v (some-true (2 ^ s .n) (endless s w) g fits e))
+  first-no-end w g h b v fits before e =
+      first-rejected w h b (ap₂ (λ (x y : Bool). not x || y) v (some-true (2 ^ s .n) (endless s w) g fits e))
       ∙ ap (rejectionBy s w) (first-is (2 ^ s .n) g (endless s w) fits e before)
       ∙ rw v
 
@@ -65,15 +65,15 @@ module _ (s : Set) where
     -- ---- by what it means
 
     no-vectors : (w : ℕ) → FailsWithout s w → firstFailing s ≡ NoVector w
-    no-vectors w f = judge-no-vector w (f .within) (λ u l. good-passes u (f .before u l)) (no-vector s w (f .none))
+    no-vectors w f = first-no-vector w (f .within) (λ u l. good-passes u (f .before u l)) (no-vector s w (f .none))
 
     no-ends : (w g : ℕ) → FailsEndless s w g → firstFailing s ≡ NoEnd w g
     no-ends w g f =
-        judge-no-end w g (f .within) (λ u l. good-passes u (f .before u l)) (has-vector s w (f .vector)) (f .fits)
+        first-no-end w g (f .within) (λ u l. good-passes u (f .before u l)) (has-vector s w (f .vector)) (f .fits)
         (λ k h. ends-of s ok w k (omega (arith, f .fits)) (f .ends k h)) (endless-of s ok w g (f .fits) (f .never))
 
     pub first-of : (v : Verdict) → MeansFirst s v → firstFailing s ≡ v
-    first-of Accepted m = judge-accepted (λ w h. good-passes w (m w h))
+    first-of Accepted m = first-accepted (λ w h. good-passes w (m w h))
     first-of (NoVector w) m = no-vectors w m
     first-of (NoEnd w g) m = no-ends w g m
     first-of BadSet m = absurd m

@@ -48,7 +48,7 @@ fn told_by(words: u32, any: bool, w: u32, g: u16) -> Verdict
 
 // The first word that fails, and how, with a byte of scratch for each vector: document 01's loops. A word at which the same constraints are active as at a good
 // word before it is good.
-fn judge_words(set: Set, seen: &mut [u64; PLACES], marks: &mut [u8]) -> Verdict
+fn first_failing(set: Set, seen: &mut [u64; PLACES], marks: &mut [u8]) -> Verdict
     requires { ⌜ (wellFormed set ≡ true) × (length (now marks) ≡ scratchBytes (set .n)) × Known set (fails set) (now seen) ⌝ }
     ensures { λ r. ⌜ r ≡ firstFailing set ⌝ }
     ensures { λ r. ⌜ Known set (fails set) (now (seen .exit)) ⌝ }
@@ -105,6 +105,16 @@ fn revise(set: Set, found: Verdict, seen: &mut [u64; PLACES]) -> Verdict
     }
 }
 
+// The verdict on the words of a well-formed set, with a byte of scratch for each vector.
+fn judge_words(set: Set, marks: &mut [u8]) -> Verdict
+    requires { ⌜ (wellFormed set ≡ true) × (length (now marks) ≡ scratchBytes (set .n)) ⌝ }
+    ensures { λ r. ⌜ r ≡ judgeWords set ⌝ }
+{
+    let mut seen = [0u64; PLACES];
+    let found = first_failing(set, &mut seen, marks);
+    revise(set, found, &mut seen)
+}
+
 // The verdict on a set, with scratch of at least `scratchBytes n` bytes, one for each vector: of those the content afterwards is free, later bytes are untouched.
 pub fn judge(set: Set, scratch: &mut [u8]) -> Verdict
     ensures { λ r. ⌜ r ≡ judgeOf set (length (now (scratch .entry))) ⌝ }
@@ -117,7 +127,5 @@ pub fn judge(set: Set, scratch: &mut [u8]) -> Verdict
     if scratch.len() < vectors {
         return Verdict::ShortScratch;
     }
-    let mut seen = [0u64; PLACES];
-    let found = judge_words(set, &mut seen, &mut scratch[0..vectors]);
-    revise(set, found, &mut seen)
+    judge_words(set, &mut scratch[0..vectors])
 }
