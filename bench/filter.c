@@ -346,7 +346,7 @@ static bool settle(const struct table *t, uint16_t from, uint8_t *marks)
     return true;
 }
 
-// The place of a mask among the masks of good words.
+// The place of a mask among the masks that are kept.
 static size_t place_of(uint64_t active)
 {
     return active % PLACES;
@@ -377,7 +377,7 @@ static uint32_t first_without(const struct set *s, const struct literals *l, uin
 }
 
 // The first word that fails, and how.
-static struct verdict judge_words(const struct set *s, const struct literals *l, uint64_t *seen, uint8_t *scratch)
+static struct verdict first_failing(const struct set *s, const struct literals *l, uint64_t *seen, uint8_t *scratch)
 {
     size_t vectors = (size_t)1 << s->n;
     for (uint32_t w = 0; w < (uint32_t)1 << s->r; w++) {
@@ -405,7 +405,7 @@ static struct verdict judge(const struct set *s, uint8_t *scratch, size_t len)
     struct literals l;
     make_literals(s, &l);
     uint64_t seen[PLACES] = { 0 };
-    struct verdict found = judge_words(s, &l, seen, scratch);
+    struct verdict found = first_failing(s, &l, seen, scratch);
     if (found.number != 23)
         return found;
     uint32_t without = first_without(s, &l, found.word + 1, seen);

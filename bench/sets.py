@@ -41,16 +41,14 @@ def falling(r, n, m, read_literals, seed):
 
 
 def circling_at_word_0(r, n, m, turn_on, seed):
-    """The constraints of `falling` on the outputs but the last two, and a pair that is active at word 0 alone and makes the walk from the last
-    output but one go round: 23 at word 0. With `turn_on` plain and negated are exchanged, so that passes only turn outputs on, and a safe vector is
-    found late."""
+    """The constraints of `falling` on all outputs but the first two, and a pair on these that is active at word 0 alone and makes the walk from
+    output 0 go round: 23 at word 0, request 1. Vector 0 is safe at every word. With `turn_on` plain and negated are exchanged, so that passes only
+    turn outputs on, and the first safe vector is a late one."""
     falls = falling(r, n - 2, m - 2, 1, seed)
-    if turn_on:
-        falls.constraints = [[(k, out, neg ^ out, rank) for k, out, neg, rank in c] for c in falls.constraints]
-    a, b = n - 2, n - 1
+    others = [[(k + 2, out, neg ^ turn_on, rank) if out else (k, out, neg, rank) for k, out, neg, rank in c] for c in falls.constraints]
     off = [(k, False, True, 0) for k in range(r)]
-    pair = [off + [(a, True, False, 1), (b, True, negated, 0)] for negated in (True, False)]
-    return Set(falls.reads, names(b"a", n), falls.constraints + pair)
+    pair = [off + [(0, True, False, 1), (1, True, negated, 0)] for negated in (True, False)]
+    return Set(falls.reads, names(b"a", n), others + pair)
 
 
 def counter(n, splits):

@@ -15,12 +15,12 @@ use Rattle.verdict.specs.declared.verdict.Verdict.the-variants.{Accepted, BadSe
 use Rattle.verdict.specs.Judge.{scratchBytes, judgeWords, judgeOf}
 use Rattle.verdict.specs.FirstFailing.{firstFailing}
 use Rattle.verdict.specs.Told.{verdictTold}
-use Rattle.verdict.specs.Meaning.{FailsWithout, FailsEndless, Means, MeansFirst}
+use Rattle.verdict.specs.Meaning.{FailsWithout, FailsEndless, Means, MeansFailing}
 use Rattle.verdict.proofs.WordTests.{vector-or-none}
 use Rattle.verdict.proofs.JudgeLaws.{judged}
-use Rattle.verdict.proofs.FirstFailingLaws.{first-of, first-means}
+use Rattle.verdict.proofs.FirstFailingLaws.{failing-of, failing-means}
 use Rattle.verdict.proofs.MeaningLaws.{means-words}
-use Rattle.verdict.proofs.OrderLaws.{still-without, still-endless}
+use Rattle.verdict.proofs.FailingStays.{still-without, still-endless}
 use Rattle.promise.specs.OneGroup.{FailsNoVector, FailsNoEnd, OldOrder, InGroup, HigherNoVector, OneGroup}
 use Rattle.promise.proofs.PassMeanings.{ends-iff}
 use Rattle.promise.proofs.ExactVerdicts.{told-accepted, told-word, told-request, vector-iff, good-iff, without-iff, means}
@@ -54,22 +54,22 @@ module _ (s : Set) (ok : wellFormed s ≡ true) where
     },
   )
 
-  first-is : (v : Verdict) → firstFailing s ≡ v → MeansFirst s v
-  first-is v e = subst (MeansFirst s) e (first-means s ok)
+  first-is : (v : Verdict) → firstFailing s ≡ v → MeansFailing s v
+  first-is v e = subst (MeansFailing s) e (failing-means s ok)
 
   pub old-order : OldOrder s
   old-order = record {
     accepts = (
       λ e w h. good-iff s ok w .0 (first-is Accepted (told-accepted (firstFailing s) e) w h),
-      λ m. ap verdictTold (first-of s ok Accepted (λ w h. good-iff s ok w .1 (m w h))),
+      λ m. ap verdictTold (failing-of s ok Accepted (λ w h. good-iff s ok w .1 (m w h))),
     );
     names-word = λ w. (
       λ e. fails-without-iff w .0 (first-is (NoVector w) (told-word (firstFailing s) w e)),
-      λ m. ap verdictTold (first-of s ok (NoVector w) (fails-without-iff w .1 m)),
+      λ m. ap verdictTold (failing-of s ok (NoVector w) (fails-without-iff w .1 m)),
     );
     names-request = λ w g. (
       λ e. fails-endless-iff w g .0 (first-is (NoEnd w g) (told-request (firstFailing s) w g e)),
-      λ m. ap verdictTold (first-of s ok (NoEnd w g) (fails-endless-iff w g .1 m)),
+      λ m. ap verdictTold (failing-of s ok (NoEnd w g) (fails-endless-iff w g .1 m)),
     );
   }
 
@@ -99,9 +99,9 @@ module _ (s : Set) (ok : wellFormed s ≡ true) where
         go ShortScratch m e = absurd m
 
     kept : ((w g : ℕ) → ¬ InGroup s w g) → judgeOf s room ≡ firstFailing s
-    kept n = sym (judged s room ok enough) ∙ go (firstFailing s) (first-means s ok)
+    kept n = sym (judged s room ok enough) ∙ go (firstFailing s) (failing-means s ok)
       where
-        go : (v : Verdict) → MeansFirst s v → judgeWords s ≡ v
+        go : (v : Verdict) → MeansFailing s v → judgeWords s ≡ v
         go Accepted m = means-words s ok Accepted m
         go (NoVector w) m = still-without s ok w m
         go (NoEnd w g) m = still-endless s ok w g m (λ u h. all u h (vector-or-none s u))

@@ -240,7 +240,7 @@ orderCases =
     -- an endless walk at word 0, no vector at word 1; from the bytes of a file, and by a pair that forbids A both ways
     reordered (loadOf fileOfOrder .set) (23 ∷ 0 ∷ 1 ∷ []) (22 ∷ 1 ∷ [])
     ∷ reordered (setOfAB (sensorS ∷ []) (circling 0 0 ++ forbidding 1 0)) (23 ∷ 0 ∷ 1 ∷ []) (22 ∷ 1 ∷ [])
-    -- an endless walk where s is off, no vector where t is on: the lowest word without one is 2, behind a good word, and so is word 3 without one
+    -- an endless walk where s is off, no vector where t is on: words 2 and 3 have none, and 2 is told, behind the good word 1
     ∷ reordered (setOfAB (sensorS ∷ sensorT ∷ []) (circling 0 1 ++ forbidding 2 0)) (23 ∷ 0 ∷ 1 ∷ []) (22 ∷ 2 ∷ [])
     -- 23 stays: an endless walk where s is on, and vectors at both words
     ∷ reordered (setOfAB (sensorS ∷ []) (circling 1 0)) (23 ∷ 1 ∷ 1 ∷ []) (23 ∷ 1 ∷ 1 ∷ [])

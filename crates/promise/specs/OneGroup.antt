@@ -36,7 +36,8 @@ pub record OldOrder (s : Set) : Type 0 where
 
 -- ---- what changed
 
--- a set of the group: its first failing word w has a safe vector, with the request g, while some higher word has none
+-- a set of the group: its first failing word is w, which has a safe vector, g is the first request whose walk never reaches one there, and some higher word has
+-- none
 abbrev pub InGroup : Set → ℕ → ℕ → Type 0
 InGroup s w g = FailsNoEnd s w g × ((u : ℕ) × (w < u) × (u < 2 ^ s .r) × (¬ HasVector s u))
 

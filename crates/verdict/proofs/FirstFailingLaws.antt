@@ -16,29 +16,29 @@ use Rattle.verdict.specs.declared.verdict.Verdict.{Verdict}
 use Rattle.verdict.specs.declared.verdict.Verdict.the-variants.{Accepted, BadSet, ShortScratch, NoVector, NoEnd}
 use Rattle.verdict.specs.Judge.{endless}
 use Rattle.verdict.specs.FirstFailing.{fails, rejectionBy, rejection, verdictAt, firstFailing}
-use Rattle.verdict.specs.Meaning.{Good, FailsWithout, FailsEndless, MeansFirst}
+use Rattle.verdict.specs.Meaning.{Good, FailsWithout, FailsEndless, MeansFailing}
 use Rattle.verdict.proofs.WordTests.{has-vector, vector-of, no-vector, ends-of, endless-of, reaches-of, never-of}
 
 module _ (s : Set) where
   -- ---- by its tests: what the nested loops over words and requests need
 
-  pub first-accepted : ((w : ℕ) → w < 2 ^ s .r → fails s w ≡ false) → firstFailing s ≡ Accepted
+  pub failing-accepted : ((w : ℕ) → w < 2 ^ s .r → fails s w ≡ false) → firstFailing s ≡ Accepted
   unfolding firstFailing verdictAt
-  first-accepted f = ap (verdictAt s) (first-none (2 ^ s .r) (fails s) f) ∙ rw (le-ltb (2 ^ s .r) (2 ^ s .r) (omega arith))
+  failing-accepted f = ap (verdictAt s) (first-none (2 ^ s .r) (fails s) f) ∙ rw (le-ltb (2 ^ s .r) (2 ^ s .r) (omega arith))
 
-  first-rejected : (w : ℕ) → w < 2 ^ s .r → ((u : ℕ) → u < w → fails s u ≡ false) → fails s w ≡ true → firstFailing s ≡ rejection s w
+  failing-rejected : (w : ℕ) → w < 2 ^ s .r → ((u : ℕ) → u < w → fails s u ≡ false) → fails s w ≡ true → firstFailing s ≡ rejection s w
   unfolding firstFailing verdictAt
-  first-rejected w h b e = ap (verdictAt s) (first-is (2 ^ s .r) w (fails s) h e b) ∙ rw (lt-ltb w (2 ^ s .r) h)
+  failing-rejected w h b e = ap (verdictAt s) (first-is (2 ^ s .r) w (fails s) h e b) ∙ rw (lt-ltb w (2 ^ s .r) h)
 
-  pub first-no-vector : (w : ℕ) → w < 2 ^ s .r → ((u : ℕ) → u < w → fails s u ≡ false) → hasVector s w ≡ false → firstFailing s ≡ NoVector w
+  pub failing-no-vector : (w : ℕ) → w < 2 ^ s .r → ((u : ℕ) → u < w → fails s u ≡ false) → hasVector s w ≡ false → firstFailing s ≡ NoVector w
   unfolding rejection rejectionBy fails
-  first-no-vector w h b e = first-rejected w h b (ap (λ (x : Bool). not x || some (2 ^ s .n) (endless s w)) e) ∙ rw e
+  failing-no-vector w h b e = failing-rejected w h b (ap (λ (x : Bool). not x || some (2 ^ s .n) (endless s w)) e) ∙ rw e
 
-  pub first-no-end : (w g : ℕ) → w < 2 ^ s .r → ((u : ℕ) → u < w → fails s u ≡ false) → hasVector s w ≡ true
+  pub failing-no-end : (w g : ℕ) → w < 2 ^ s .r → ((u : ℕ) → u < w → fails s u ≡ false) → hasVector s w ≡ true
       → g < 2 ^ s .n → ((k : ℕ) → k < g → endless s w k ≡ false) → endless s w g ≡ true → firstFailing s ≡ NoEnd w g
   unfolding rejection rejectionBy fails
-  first-no-end w g h b v fits before e =
-      first-rejected w h b (ap₂ (λ (x y : Bool). not x || y) v (some-true (2 ^ s .n) (endless s w) g fits e))
+  failing-no-end w g h b v fits before e =
+      failing-rejected w h b (ap₂ (λ (x y : Bool). not x || y) v (some-true (2 ^ s .n) (endless s w) g fits e))
       ∙ ap (rejectionBy s w) (first-is (2 ^ s .n) g (endless s w) fits e before)
       ∙ rw v
 
@@ -65,26 +65,26 @@ module _ (s : Set) where
     -- ---- by what it means
 
     no-vectors : (w : ℕ) → FailsWithout s w → firstFailing s ≡ NoVector w
-    no-vectors w f = first-no-vector w (f .within) (λ u l. good-passes u (f .before u l)) (no-vector s w (f .none))
+    no-vectors w f = failing-no-vector w (f .within) (λ u l. good-passes u (f .before u l)) (no-vector s w (f .none))
 
     no-ends : (w g : ℕ) → FailsEndless s w g → firstFailing s ≡ NoEnd w g
     no-ends w g f =
-        first-no-end w g (f .within) (λ u l. good-passes u (f .before u l)) (has-vector s w (f .vector)) (f .fits)
+        failing-no-end w g (f .within) (λ u l. good-passes u (f .before u l)) (has-vector s w (f .vector)) (f .fits)
         (λ k h. ends-of s ok w k (omega (arith, f .fits)) (f .ends k h)) (endless-of s ok w g (f .fits) (f .never))
 
-    pub first-of : (v : Verdict) → MeansFirst s v → firstFailing s ≡ v
-    first-of Accepted m = first-accepted (λ w h. good-passes w (m w h))
-    first-of (NoVector w) m = no-vectors w m
-    first-of (NoEnd w g) m = no-ends w g m
-    first-of BadSet m = absurd m
-    first-of ShortScratch m = absurd m
+    pub failing-of : (v : Verdict) → MeansFailing s v → firstFailing s ≡ v
+    failing-of Accepted m = failing-accepted (λ w h. good-passes w (m w h))
+    failing-of (NoVector w) m = no-vectors w m
+    failing-of (NoEnd w g) m = no-ends w g m
+    failing-of BadSet m = absurd m
+    failing-of ShortScratch m = absurd m
 
     -- one of the meanings holds
-    at-word : (w : ℕ) → w < 2 ^ s .r → ((u : ℕ) → u < w → Good s u) → fails s w ≡ true → (v : Verdict) × MeansFirst s v
+    at-word : (w : ℕ) → w < 2 ^ s .r → ((u : ℕ) → u < w → Good s u) → fails s w ≡ true → (v : Verdict) × MeansFailing s v
     unfolding fails
     at-word w h b e = by-test (hasVector s w) ends none-safe
       where
-        ends : hasVector s w ≡ true → (v : Verdict) × MeansFirst s v
+        ends : hasVector s w ≡ true → (v : Verdict) × MeansFailing s v
         ends q =
             let t : some (2 ^ s .n) (endless s w) ≡ true = ap (λ (b : Bool). not b || some (2 ^ s .n) (endless s w)) (sym q) ∙ e in
             let l = some-first (2 ^ s .n) (endless s w) t in (
@@ -99,19 +99,19 @@ module _ (s : Set) where
               },
             )
 
-        none-safe : hasVector s w ≡ false → (v : Verdict) × MeansFirst s v
+        none-safe : hasVector s w ≡ false → (v : Verdict) × MeansFailing s v
         none-safe q = (NoVector w, record { within = h; before = b; none = λ v. clash (has-vector s w v) q })
 
-    some-meaning : (v : Verdict) × MeansFirst s v
+    some-meaning : (v : Verdict) × MeansFailing s v
     some-meaning = go (first (2 ^ s .r) (fails s)) (first-spec (2 ^ s .r) (fails s))
       where
-        go : (w : ℕ) → First (2 ^ s .r) (fails s) w → (v : Verdict) × MeansFirst s v
+        go : (w : ℕ) → First (2 ^ s .r) (fails s) w → (v : Verdict) × MeansFailing s v
         go w f = told (decLt w (2 ^ s .r))
           where
-            told : Dec (w < 2 ^ s .r) → (v : Verdict) × MeansFirst s v
+            told : Dec (w < 2 ^ s .r) → (v : Verdict) × MeansFailing s v
             told (yes h) = at-word w h (λ u l. good-of u (f .before u l)) (f .here h)
             told (no nh) = (Accepted, λ u l. good-of u (f .before u (omega arith)))
 
     -- and its meaning holds
-    pub first-means : MeansFirst s (firstFailing s)
-    first-means = let m = some-meaning in subst (MeansFirst s) (sym (first-of (m .0) (m .1))) (m .1)
+    pub failing-means : MeansFailing s (firstFailing s)
+    failing-means = let m = some-meaning in subst (MeansFailing s) (sym (failing-of (m .0) (m .1))) (m .1)

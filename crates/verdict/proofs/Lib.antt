@@ -2,7 +2,7 @@ pub mod JudgeLaws
 pub mod WordTests
 pub mod FirstFailingLaws
 pub mod MeaningLaws
-pub mod OrderLaws
+pub mod FailingStays
 pub mod MarksLaws
 pub mod WordMarks
 pub mod SeenLaws

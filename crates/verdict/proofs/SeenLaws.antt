@@ -38,14 +38,14 @@ use Rattle.verdict.proofs.FirstFailingLaws.{passes}
 module _ (s : Set) (bad : ℕ → Bool) where
   -- a word whose mask is kept passes
   pub known-hit : (seen : List ℕ) → Known s bad seen → (w active : ℕ) → active ≡ activeOf s w → isSeen seen active ≡ true → bad w ≡ false
-  known-hit seen known w active ea e = known .good (placeOf active) w (sym ea ∙ sym (eqb-true (getD seen (placeOf active) 0) active e))
+  known-hit seen known w active ea e = known .passed (placeOf active) w (sym ea ∙ sym (eqb-true (getD seen (placeOf active) 0) active e))
 
   -- and the mask of a word that passes may be kept
   pub known-more : ((u w : ℕ) → activeOf s u ≡ activeOf s w → bad u ≡ bad w) → (seen : List ℕ) → Known s bad seen
       → (w active : ℕ) → active ≡ activeOf s w → bad w ≡ false → (x : List ℕ) → x ≡ withSeen seen active → Known s bad x
   known-more alike seen known w active ea passed x ex = subst (Known s bad) (sym ex) (record {
     long = length-set seen (placeOf active) active ∙ known .long;
-    good = λ k u e. go k u e (ℕ-discrete k (placeOf active));
+    passed = λ k u e. go k u e (ℕ-discrete k (placeOf active));
   })
     where
       room : placeOf active < length seen
@@ -54,7 +54,7 @@ module _ (s : Set) (bad : ℕ → Bool) where
       go : (k u : ℕ) → activeOf s u ≡ getD (withSeen seen active) k 0 → Dec (k ≡ placeOf active) → bad u ≡ false
       go k u e (yes q) =
           alike u w (e ∙ ap (λ (j : ℕ). getD (withSeen seen active) j 0) q ∙ getD-set-same seen (placeOf active) active 0 room ∙ ea) ∙ passed
-      go k u e (no nq) = known .good k u (e ∙ getD-set-other seen (placeOf active) k active 0 nq)
+      go k u e (no nq) = known .passed k u (e ∙ getD-set-other seen (placeOf active) k active 0 nq)
 
 -- ---- the two tests: a word fails, and a word lacks a safe vector
 
@@ -63,7 +63,7 @@ pub known-vectors : (s : Set) (seen : List ℕ) → Known s (fails s) seen → K
 unfolding fails lacks
 known-vectors s seen known = record {
   long = known .long;
-  good = λ k u e. or-false (not (hasVector s u)) (some (2 ^ s .n) (endless s u)) (known .good k u e) .0;
+  passed = λ k u e. or-false (not (hasVector s u)) (some (2 ^ s .n) (endless s u)) (known .passed k u e) .0;
 }
 
 module _ (s : Set) (ok : wellFormed s ≡ true) where
@@ -97,4 +97,4 @@ module _ (s : Set) (ok : wellFormed s ≡ true) where
 
   -- zeros are the masks of words where no constraint is active
   pub known-none : Known s (fails s) (replicate places 0)
-  known-none = record { long = length-replicate {A = ℕ} places 0; good = λ k u e. idle u (e ∙ zeros-any places k) }
+  known-none = record { long = length-replicate {A = ℕ} places 0; passed = λ k u e. idle u (e ∙ zeros-any places k) }

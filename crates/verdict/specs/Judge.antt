@@ -31,7 +31,7 @@ lacks s w = not (hasVector s w)
 unfoldable pub hasEndless : Set → ℕ → Bool
 hasEndless s w = some (2 ^ s .n) (endless s w)
 
--- 22 with the word w, if it is one of the set's words; else what else is said
+-- 22 with the word w, if it is one of the set's words; else the verdict `otherwise`
 unfoldable pub vectorAt : Set → ℕ → Verdict → Verdict
 vectorAt s w otherwise = cond (ltb w (2 ^ s .r)) (NoVector w) otherwise
 

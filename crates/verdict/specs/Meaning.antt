@@ -57,10 +57,10 @@ pub record FailsEndless (s : Set) (w g : ℕ) : Type 0 where
   pub ends : (request : ℕ) → request < g → Reaches s w request
   pub never : ¬ Reaches s w g
 
--- what a verdict in that order says of the set
-abbrev pub MeansFirst : Set → Verdict → Type 0
-MeansFirst s Accepted = (w : ℕ) → w < 2 ^ s .r → Good s w
-MeansFirst s (NoVector w) = FailsWithout s w
-MeansFirst s (NoEnd w g) = FailsEndless s w g
-MeansFirst s BadSet = ⊥
-MeansFirst s ShortScratch = ⊥
+-- what the verdict in that order says of the set
+abbrev pub MeansFailing : Set → Verdict → Type 0
+MeansFailing s Accepted = (w : ℕ) → w < 2 ^ s .r → Good s w
+MeansFailing s (NoVector w) = FailsWithout s w
+MeansFailing s (NoEnd w g) = FailsEndless s w g
+MeansFailing s BadSet = ⊥
+MeansFailing s ShortScratch = ⊥

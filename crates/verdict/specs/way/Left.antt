@@ -1,4 +1,4 @@
--- The code's way to the verdict's answer: where the loops over words and requests were left.
+-- The code's way to the first word that fails: where the loops over words and requests were left.
 -- Assumes nothing.
 use Prim.Native.Nat.{ℕ}
 use mathlib.Core.Bool.{Bool, cond}

@@ -28,4 +28,4 @@ withSeen seen active = set seen (placeOf active) active
 -- every mask that is kept is one of words that pass the test: `bad` is false at every word with it
 pub record Known (s : Set) (bad : ℕ → Bool) (seen : List ℕ) : Type 0 where
   pub long : length seen ≡ places
-  pub good : (k u : ℕ) → activeOf s u ≡ getD seen k 0 → bad u ≡ false
+  pub passed : (k u : ℕ) → activeOf s u ≡ getD seen k 0 → bad u ≡ false

@@ -33,7 +33,7 @@ use Rattle.verdict.specs.FirstFailing.{fails, firstFailing}
 use Rattle.verdict.specs.way.Seen.{Known}
 use Rattle.verdict.specs.way.Left.{verdictBy}
 use Rattle.verdict.proofs.JudgeLaws.{scratch-is}
-use Rattle.verdict.proofs.FirstFailingLaws.{first-accepted, first-no-vector, first-no-end, passes}
+use Rattle.verdict.proofs.FirstFailingLaws.{failing-accepted, failing-no-vector, failing-no-end, passes}
 use Rattle.verdict.proofs.WordMarks.{Ready, marked-safe, settled-request}
 use Rattle.verdict.proofs.SeenLaws.{known-hit, known-more, fails-alike}
 use borrow.Author.Needs.{needs}
@@ -352,11 +352,11 @@ answer c =
     (λ n h.
     let all : o .words .w ≡ 2 ^ set o .r = omega (arith, o .words .inv .0, o .words .inv .2) in
     by-all words (l .words-test .any) (o .words .w) (l .words-test .g) h
-    ∙ sym (first-accepted (set o) (some-false-at (2 ^ set o .r) (fails (set o)) (ap (λ (k : ℕ). some k (fails (set o))) (sym all) ∙ o .words .inv .4))))
-    (λ n h a v. by-none words (l .words-test .any) (o .words .w) (l .words-test .g) h a ∙ sym (first-no-vector (set o) (o .words .w) h (before o) v))
+    ∙ sym (failing-accepted (set o) (some-false-at (2 ^ set o .r) (fails (set o)) (ap (λ (k : ℕ). some k (fails (set o))) (sym all) ∙ o .words .inv .4))))
+    (λ n h a v. by-none words (l .words-test .any) (o .words .w) (l .words-test .g) h a ∙ sym (failing-no-vector (set o) (o .words .w) h (before o) v))
     (λ n h a v f b e.
     by-never words (l .words-test .any) (o .words .w) (l .words-test .g) h a
-    ∙ sym (first-no-end (set o) (o .words .w) (l .words-test .g) h (before o) v f (some-false-at (l .words-test .g) (endless (set o) (o .words .w)) b) e))
+    ∙ sym (failing-no-end (set o) (o .words .w) (l .words-test .g) h (before o) v f (some-false-at (l .words-test .g) (endless (set o) (o .words .w)) b) e))
 
 returns : tie.Need-returns Inv-loop μ-loop Inv-words μ-words
 returns c = (answer c, c .before .before .words .inv .5)

@@ -18,7 +18,7 @@ use Rattle.verdict.specs.declared.verdict.Verdict.the-variants.{NoEnd}
 use Rattle.verdict.proofs.verdict.Verdict.{the-type}
 use Rattle.verdict.specs.FirstFailing.{firstFailing}
 use Rattle.verdict.proofs.MeaningLaws.{judge-without}
-use Rattle.verdict.proofs.OrderLaws.{found-stays, found-within, none-up-to, stays-endless}
+use Rattle.verdict.proofs.FailingStays.{found-stays, found-within, none-up-to, stays-endless}
 use borrow.Author.Needs.{needs}
 use Rattle.verdict.proofs.verdict.revise.Statement.{statement}
 use Rattle.verdict.proofs.verdict.revise.Tie as tie

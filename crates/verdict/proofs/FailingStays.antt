@@ -15,9 +15,9 @@ use Rattle.verdict.specs.declared.verdict.Verdict.{Verdict}
 use Rattle.verdict.specs.declared.verdict.Verdict.the-variants.{Accepted, BadSet, ShortScratch, NoVector, NoEnd}
 use Rattle.verdict.specs.Judge.{lacks, judgeWords}
 use Rattle.verdict.specs.FirstFailing.{firstFailing}
-use Rattle.verdict.specs.Meaning.{FailsWithout, FailsEndless, MeansFirst}
+use Rattle.verdict.specs.Meaning.{FailsWithout, FailsEndless, MeansFailing}
 use Rattle.verdict.proofs.WordTests.{has-lacks, lacks-has}
-use Rattle.verdict.proofs.FirstFailingLaws.{first-means}
+use Rattle.verdict.proofs.FirstFailingLaws.{failing-means}
 use Rattle.verdict.proofs.MeaningLaws.{means-words}
 
 module _ (s : Set) (ok : wellFormed s ≡ true) where
@@ -40,14 +40,14 @@ module _ (s : Set) (ok : wellFormed s ≡ true) where
 
   -- ---- by the answer that the loops found
 
-  found-means : (v : Verdict) → v ≡ firstFailing s → MeansFirst s v
-  found-means v e = subst (MeansFirst s) (sym e) (first-means s ok)
+  found-means : (v : Verdict) → v ≡ firstFailing s → MeansFailing s v
+  found-means v e = subst (MeansFailing s) (sym e) (failing-means s ok)
 
   -- any answer but 23 stays
   pub found-stays : (v : Verdict) → v ≡ firstFailing s → ((w g : ℕ) → v ≢ NoEnd w g) → v ≡ judgeWords s
   found-stays v e = go v (found-means v e)
     where
-      go : (v : Verdict) → MeansFirst s v → ((w g : ℕ) → v ≢ NoEnd w g) → v ≡ judgeWords s
+      go : (v : Verdict) → MeansFailing s v → ((w g : ℕ) → v ≢ NoEnd w g) → v ≡ judgeWords s
       go Accepted m n = sym (means-words s ok Accepted m)
       go (NoVector w) m n = sym (still-without w m)
       go (NoEnd w g) m n = absurd (n w g refl)
