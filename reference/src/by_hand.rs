@@ -1,5 +1,5 @@
-//! Document 01's "Tried by hand" as files and scans, and the like for a later
-//! request, for the front of a corpus.
+//! Document 01's "Tried by hand" as files and scans, and the like for later
+//! requests, for the front of a corpus.
 
 use crate::damage::P;
 use crate::records::{Case, Kept, List, Words};
@@ -66,6 +66,53 @@ pub fn power_up() -> Vec<Case> {
         });
     }
     cases
+}
+
+/// Sensor s, outputs A and B; "A, not B" and "A, B", where B yields; "s, not A,
+/// B"; "s, not A, not B".
+#[rustfmt::skip]
+pub const K5: [u8; 54] = [
+    0x01, 0, 2, 1, 2,
+    0x02, 0, 3, 0, 0, b's',
+    0x03, 0, 1, b'A',
+    0x03, 0, 1, b'B',
+    0x04, 0, 4, 0x40, 1, 0xC1, 0,
+    0x04, 0, 4, 0x40, 1, 0x41, 0,
+    0x04, 0, 6, 0, 0, 0xC0, 0, 0x41, 0,
+    0x04, 0, 6, 0, 0, 0xC0, 0, 0xC1, 0,
+    0x05, 0, 0,
+];
+
+/// "A, not B" and "A, B", where B yields: the walk from request 1 is endless.
+const PAIR: [&[u8]; 2] = [&[0x40, 1, 0xC1, 0], &[0x40, 1, 0x41, 0]];
+
+/// "A" and "not A": no vector is safe.
+const CLASH: [&[u8]; 2] = [&[0x40, 0], &[0xC0, 0]];
+
+/// Document 02's "Missing vectors come before endless walks": that set; the pair
+/// at all words and the clash under s; the pair under "not s" and the clash under
+/// a second sensor; the pair alone, under s; the clash under "not s" and the pair
+/// under s.
+pub fn missing_first() -> Vec<Case> {
+    let (s, not_s, t): (&[u8], &[u8], &[u8]) = (&[0, 0], &[0x80, 0], &[1, 0]);
+    let of = |sensors: u8, under: &[(&[u8], [&[u8]; 2])]| {
+        let two = |(reads, outputs): &(&[u8], [&[u8]; 2])| outputs.map(|o| [*reads, o].concat());
+        let constraints: Vec<Vec<u8>> = under.iter().flat_map(two).collect();
+        let constraints: Vec<&[u8]> = constraints.iter().map(Vec::as_slice).collect();
+        file(sensors, &[], 2, &constraints)
+    };
+    let files = [
+        K5.to_vec(),
+        of(1, &[(&[], PAIR), (s, CLASH)]),
+        of(2, &[(not_s, PAIR), (t, CLASH)]),
+        of(1, &[(s, PAIR)]),
+        of(1, &[(not_s, CLASH), (s, PAIR)]),
+    ];
+    let case = |file| Case::File {
+        file,
+        scans: Vec::new(),
+    };
+    files.map(case).to_vec()
 }
 
 /// The cases in the order of the paper; for the last, files that are refused.

@@ -1,4 +1,5 @@
-//! The verdict: every read word in rising order, then every request.
+//! The verdict: all read words are tried for a safe vector, then all of them
+//! for an endless walk.
 
 use crate::filter::{is_safe, read_literals_true, walk, Walk};
 use crate::set::{bits, Constraint, Set};
@@ -13,45 +14,100 @@ pub enum Verdict {
     NoEnd(u32, u16),
 }
 
-/// How one read word fails.
-#[derive(Clone, Copy, Debug, PartialEq, Eq)]
-enum Failure {
-    NoVector,
-    NoEnd(u16),
-}
-
 /// The verdict. A read word counts only through the constraints whose read
 /// literals it makes true; words that agree in these share one answer.
 pub fn judge(set: &Set) -> Verdict {
-    let mut answers: HashMap<Vec<usize>, Option<Failure>> = HashMap::new();
-    judge_by(set, |reads| {
-        let active = active(set, reads);
-        if let Some(answer) = answers.get(&active) {
-            return *answer;
-        }
-        let answer = try_word(&only(set, &active), reads);
-        answers.insert(active, answer);
-        answer
-    })
+    let mut vectors = Shared::new(set, has_safe_vector);
+    let mut walks = Shared::new(set, first_endless);
+    if let Some(word) = words(set).find(|&word| !vectors.at(word)) {
+        return Verdict::NoVector(word);
+    }
+    let endless = words(set).find_map(|word| Some((word, walks.at(word)?)));
+    match endless {
+        Some((word, request)) => Verdict::NoEnd(word, request),
+        None => Verdict::Accepted,
+    }
 }
 
-/// The verdict straight from document 01, every word by itself: slow, and there
+/// The verdict straight from the paper, every word by itself: slow, and there
 /// to test `judge` with.
 pub fn judge_plainly(set: &Set) -> Verdict {
-    judge_by(set, |reads| try_word(set, reads))
-}
-
-/// The first word that fails, by the given way of trying one.
-fn judge_by(set: &Set, mut fails: impl FnMut(&[bool]) -> Option<Failure>) -> Verdict {
     let r = set.reads.len();
-    for word in 0..1u32 << r {
-        match fails(&bits(word, r)) {
-            Some(Failure::NoVector) => return Verdict::NoVector(word),
-            Some(Failure::NoEnd(request)) => return Verdict::NoEnd(word, request),
-            None => {}
+    for word in 0..1 << r {
+        if !has_safe_vector(set, &bits(word, r)) {
+            return Verdict::NoVector(word);
+        }
+    }
+    for word in 0..1 << r {
+        if let Some(request) = first_endless(set, &bits(word, r)) {
+            return Verdict::NoEnd(word, request);
         }
     }
     Verdict::Accepted
+}
+
+/// The verdict in document 01's order, as it was before the request "Missing
+/// vectors come before endless walks": each word is tried for a safe vector and
+/// then for an endless walk, and the first that fails is told. No answer comes
+/// from here: it tells which sets have another one now, and the corpus draws its
+/// older sets by it, so that they stay the same.
+pub fn judge_in_the_old_order(set: &Set) -> Verdict {
+    let mut vectors = Shared::new(set, has_safe_vector);
+    let mut walks = Shared::new(set, first_endless);
+    for word in words(set) {
+        if !vectors.at(word) {
+            return Verdict::NoVector(word);
+        }
+        if let Some(request) = walks.at(word) {
+            return Verdict::NoEnd(word, request);
+        }
+    }
+    Verdict::Accepted
+}
+
+/// All read words in rising order.
+fn words(set: &Set) -> std::ops::Range<u32> {
+    0..1 << set.reads.len()
+}
+
+/// True if any of the 2^n vectors is safe at a read word.
+pub fn has_safe_vector(set: &Set, reads: &[bool]) -> bool {
+    let n = set.outputs.len();
+    let mut vectors = 0..1u32 << n;
+    vectors.any(|vector| is_safe(set, reads, &bits(vector, n)))
+}
+
+/// The first request whose walk is never safe at a read word.
+pub fn first_endless(set: &Set, reads: &[bool]) -> Option<u16> {
+    let n = set.outputs.len();
+    let endless = |request: &u16| walk(set, reads, &bits(u32::from(*request), n)) == Walk::Endless;
+    (0..1u16 << n).find(endless)
+}
+
+/// Answers about the read words of a set, one for all words that make the same
+/// constraints' read literals true.
+struct Shared<'a, A> {
+    set: &'a Set,
+    ask: fn(&Set, &[bool]) -> A,
+    answers: HashMap<Vec<usize>, A>,
+}
+
+impl<'a, A: Copy> Shared<'a, A> {
+    fn new(set: &'a Set, ask: fn(&Set, &[bool]) -> A) -> Shared<'a, A> {
+        let answers = HashMap::new();
+        Shared { set, ask, answers }
+    }
+
+    fn at(&mut self, word: u32) -> A {
+        let reads = bits(word, self.set.reads.len());
+        let active = active(self.set, &reads);
+        if let Some(answer) = self.answers.get(&active) {
+            return *answer;
+        }
+        let answer = (self.ask)(&only(self.set, &active), &reads);
+        self.answers.insert(active, answer);
+        answer
+    }
 }
 
 /// The places of the constraints whose read literals are all true.
@@ -70,16 +126,4 @@ fn only(set: &Set, places: &[usize]) -> Set {
         constraints,
         ..set.clone()
     }
-}
-
-/// One read word: is any vector safe, then does every walk reach one?
-fn try_word(set: &Set, reads: &[bool]) -> Option<Failure> {
-    let n = set.outputs.len();
-    let vectors = 0..1u16 << n;
-    let safe = |vector: u16| is_safe(set, reads, &bits(u32::from(vector), n));
-    if !vectors.clone().any(safe) {
-        return Some(Failure::NoVector);
-    }
-    let endless = |request: &u16| walk(set, reads, &bits(u32::from(*request), n)) == Walk::Endless;
-    vectors.clone().find(endless).map(Failure::NoEnd)
 }

@@ -1,14 +1,15 @@
 //! Document 01's "Tried by hand", starred and unstarred cases, and document 02's
-//! "No rising edge on power-up".
+//! "No rising edge on power-up" and "Missing vectors come before endless walks".
 
+use reference::by_hand;
 use reference::damage::P;
 use reference::file::{load, Refusal};
 use reference::filter::holds;
 use reference::machine::{scan, start, ScanRefusal, Sent, State};
 use reference::program::line;
-use reference::records::{Kept, Words};
+use reference::records::{Case, Kept, Words};
 use reference::set::{Constraint, Kind, Literal, Point, ReadPoint, Set};
-use reference::verdict::{judge, Verdict};
+use reference::verdict::{judge, judge_in_the_old_order, judge_plainly, Verdict};
 
 /// A read literal, plain or negated.
 fn read(number: usize, negated: bool) -> Literal {
@@ -127,6 +128,87 @@ fn endless() -> Set {
 fn endless_walk_is_rejected() {
     assert_eq!(judge(&endless()), Verdict::NoEnd(0, 1));
     assert_eq!(start(&endless()), Err(Verdict::NoEnd(0, 1)));
+}
+
+/// "A, not B" and "A, B" behind some read literals, A of rank 1 and B of rank 0:
+/// the walk from A alone is endless.
+fn pair(reads: &[Literal]) -> [Vec<Literal>; 2] {
+    [true, false].map(|negated| [reads, &[out(0, false, 1), out(1, negated, 0)]].concat())
+}
+
+/// "A" and "not A" behind some read literals: no vector is safe.
+fn clash(reads: &[Literal]) -> [Vec<Literal>; 2] {
+    [false, true].map(|negated| [reads, &[out(0, negated, 0)]].concat())
+}
+
+/// What is told of the constraints with so many sensors, in document 01's order
+/// and now.
+fn told(sensors: usize, constraints: &[[Vec<Literal>; 2]]) -> [Verdict; 2] {
+    let constraints: Vec<&[Literal]> = constraints.iter().flatten().map(Vec::as_slice).collect();
+    let set = set(&vec![Kind::Sensor; sensors], 2, &constraints);
+    let now = judge(&set);
+    assert_eq!(judge_plainly(&set), now);
+    assert_eq!(start(&set), Err(now));
+    [judge_in_the_old_order(&set), now]
+}
+
+#[test]
+fn missing_vectors_come_before_endless_walks() {
+    let (s, not_s, t) = (read(0, false), read(0, true), read(1, false));
+    // "s, not A, B", "s, not A, not B": at word 1 A may be neither on nor off.
+    let not_a = |negated| vec![s, out(0, true, 0), out(1, negated, 0)];
+    let k5 = [pair(&[]), [not_a(false), not_a(true)]];
+    let changed = [Verdict::NoEnd(0, 1), Verdict::NoVector(1)];
+    assert_eq!(told(1, &k5), changed);
+    assert_eq!(told(1, &[pair(&[]), clash(&[s])]), changed);
+    // Words 0 and 2 have the pair, 2 and 3 the clash.
+    let changed = [Verdict::NoEnd(0, 1), Verdict::NoVector(2)];
+    assert_eq!(told(2, &[pair(&[not_s]), clash(&[t])]), changed);
+}
+
+#[test]
+fn other_rejections_stay() {
+    let (s, not_s) = (read(0, false), read(0, true));
+    let stays = [Verdict::NoEnd(1, 1); 2];
+    assert_eq!(told(1, &[pair(&[s])]), stays);
+    let stays = [Verdict::NoVector(0); 2];
+    assert_eq!(told(1, &[clash(&[not_s]), pair(&[s])]), stays);
+}
+
+#[test]
+fn missing_vectors_first_as_files() {
+    let lines = by_hand::missing_first().into_iter().map(|case| match case {
+        Case::File { file, .. } => line(&file),
+        _ => panic!("a file"),
+    });
+    let told = [
+        "NOVECTOR 1\n",
+        "NOVECTOR 1\n",
+        "NOVECTOR 2\n",
+        "NOEND 1 1\n",
+        "NOVECTOR 0\n",
+    ];
+    assert_eq!(lines.collect::<Vec<String>>(), told);
+    let set = load(&by_hand::K5).expect("it loads");
+    let text = "output A\noutput B\nsensor s\n\
+        never A on rank 1 and B off rank 0\nnever A on rank 1 and B on rank 0\n\
+        never s on and A off rank 0 and B on rank 0\n\
+        never s on and A off rank 0 and B off rank 0\nend\n";
+    assert_eq!(reference::text::text(&set), text);
+}
+
+#[test]
+fn scans_of_a_set_with_both() {
+    // Word 0: A off is safe, and the walk from A on is endless. Word 1: no
+    // vector is safe. No start gives such a state.
+    let mut state = State::fresh(&load(&by_hand::K5).expect("it loads"));
+    assert_eq!(scan(&mut state, 0, 0), sent(0, 0));
+    assert_eq!(scan(&mut state, 0, 1), Err(ScanRefusal::NeverSafe));
+    assert_eq!(scan(&mut state, 0, 2), sent(2, 0));
+    for request in 0..4 {
+        let answer = scan(&mut state, 1, request);
+        assert_eq!(answer, Err(ScanRefusal::NeverSafe));
+    }
 }
 
 #[test]

@@ -7,7 +7,7 @@ use reference::file::load;
 use reference::filter::read_literals_true;
 use reference::records::Case;
 use reference::set::{bits, Constraint, Set};
-use reference::verdict::{judge, judge_plainly, Verdict};
+use reference::verdict::{first_endless, has_safe_vector, judge, judge_plainly, Verdict};
 use std::collections::BTreeMap;
 use std::sync::OnceLock;
 
@@ -19,7 +19,8 @@ struct Member {
     sorts: Vec<String>,
 }
 
-/// The sets of the corpus that is committed, made once for all tests.
+/// The sets of these parts in the corpus that is committed, made once for all
+/// tests.
 fn members() -> &'static [Member] {
     static MEMBERS: OnceLock<Vec<Member>> = OnceLock::new();
     MEMBERS.get_or_init(|| skipping(1).into_iter().map(member).collect())
@@ -83,9 +84,14 @@ fn at_word(set: &Set, word: u32) -> Set {
     }
 }
 
-/// The verdict with a memory of good masks, one for each remainder by 251; a
-/// word is skipped if what is in its place is as good, by the given reading.
-fn judge_by_memory(set: &Set, as_good: fn(u64, u64) -> bool) -> Verdict {
+/// The first word that fails in some way, with a memory of masks of words that
+/// do not, one for each remainder by 251; a word is skipped if what is in its
+/// place is as good, by the given reading.
+fn first_by_memory<F>(
+    set: &Set,
+    as_good: fn(u64, u64) -> bool,
+    fails: fn(&Set) -> Option<F>,
+) -> Option<(u32, F)> {
     let mut places: Vec<Option<u64>> = vec![None; 251];
     for word in 0..1 << set.reads.len() {
         let mask = mask(set, word);
@@ -93,13 +99,26 @@ fn judge_by_memory(set: &Set, as_good: fn(u64, u64) -> bool) -> Verdict {
         if place.is_some_and(|good| as_good(good, mask)) {
             continue;
         }
-        match judge(&at_word(set, word)) {
-            Verdict::Accepted => *place = Some(mask),
-            Verdict::NoVector(_) => return Verdict::NoVector(word),
-            Verdict::NoEnd(_, request) => return Verdict::NoEnd(word, request),
+        match fails(&at_word(set, word)) {
+            Some(failure) => return Some((word, failure)),
+            None => *place = Some(mask),
         }
     }
-    Verdict::Accepted
+    None
+}
+
+/// The verdict with two such memories: of words with a safe vector, and of
+/// words whose walks all end.
+fn judge_by_memory(set: &Set, as_good: fn(u64, u64) -> bool) -> Verdict {
+    let lacks = |at: &Set| (!has_safe_vector(at, &[])).then_some(());
+    let endless = |at: &Set| first_endless(at, &[]);
+    if let Some((word, ())) = first_by_memory(set, as_good, lacks) {
+        return Verdict::NoVector(word);
+    }
+    match first_by_memory(set, as_good, endless) {
+        Some((word, request)) => Verdict::NoEnd(word, request),
+        None => Verdict::Accepted,
+    }
 }
 
 #[test]

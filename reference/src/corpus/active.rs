@@ -3,23 +3,26 @@
 //! choices of them, and words that fail late or look like a good one.
 //!
 //! Constraints that lead to one vector are good at every word; beside them
-//! stand some that make trouble where a guard is true.
+//! stand some that make trouble where a guard is true. Sets are kept by their
+//! verdict in document 01's order, so that they stay what they were before
+//! missing vectors came first; a few have a word without a safe vector behind
+//! the endless one.
 
 use super::counters::plain;
 use super::edges::stuck;
 use super::files::Files;
-use super::skips::{is_named, sorts};
+use super::skips::{is_named, sorts_by};
 use crate::chance::Chance;
 use crate::file::write;
 use crate::filter::read_literals_true;
 use crate::making::{fresh_name, points, read_literals, towards};
 use crate::records::Case;
 use crate::set::{bits, Constraint, Kind, Literal, Point, ReadPoint, Set};
-use crate::verdict::{judge, Verdict};
+use crate::verdict::{judge_in_the_old_order, Verdict};
 
 /// What goes wrong where the guard is true.
 #[derive(Clone, Copy, Debug, PartialEq, Eq)]
-enum Trouble {
+pub enum Trouble {
     Nothing,
     /// 22: an output is held both ways.
     Clash,
@@ -37,7 +40,7 @@ enum Trouble {
 
 impl Trouble {
     /// The constraints of it, for three outputs.
-    fn constraints(self, guard: &[Literal], outputs: &[usize]) -> Vec<Constraint> {
+    pub fn constraints(self, guard: &[Literal], outputs: &[usize]) -> Vec<Constraint> {
         match self {
             Trouble::Nothing => Vec::new(),
             Trouble::Clash => stuck(guard, &outputs[..1]),
@@ -62,7 +65,7 @@ impl Trouble {
 }
 
 /// A constraint of read literals and of outputs with sign and rank.
-fn constraint(reads: &[Literal], outputs: &[(usize, bool, u8)]) -> Constraint {
+pub fn constraint(reads: &[Literal], outputs: &[(usize, bool, u8)]) -> Constraint {
     let outputs = outputs.iter().map(|&(number, negated, rank)| Literal {
         rank,
         ..plain(Point::Output(number), negated)
@@ -140,7 +143,7 @@ impl Plan {
     fn set(&self, chance: &mut Chance, reads: &[Vec<Literal>]) -> Set {
         loop {
             let set = self.draft(chance, reads);
-            let verdict = judge(&set);
+            let verdict = judge_in_the_old_order(&set);
             if self.trouble.gives(verdict) && self.is_there(verdict) {
                 return set;
             }
@@ -177,19 +180,19 @@ impl Plan {
 }
 
 /// Literals of these read points, on.
-fn on(numbers: impl Iterator<Item = usize>) -> Vec<Literal> {
+pub fn on(numbers: impl Iterator<Item = usize>) -> Vec<Literal> {
     numbers.map(|k| plain(Point::Read(k), false)).collect()
 }
 
 /// For each read point a literal by itself, so that each word has a mask of
 /// its own.
-fn alone(chance: &mut Chance, r: usize) -> Vec<Vec<Literal>> {
+pub fn alone(chance: &mut Chance, r: usize) -> Vec<Vec<Literal>> {
     let literal = |k| vec![plain(Point::Read(k), chance.one_in(3))];
     (0..r).map(literal).collect()
 }
 
 /// Read literals of some constraints by chance.
-fn by_chance(chance: &mut Chance, r: usize, count: usize) -> Vec<Vec<Literal>> {
+pub fn by_chance(chance: &mut Chance, r: usize, count: usize) -> Vec<Vec<Literal>> {
     (0..count).map(|_| read_literals(chance, r, 2)).collect()
 }
 
@@ -271,7 +274,7 @@ fn all_named(chance: &mut Chance, r: usize, trouble: Trouble) -> Set {
 }
 
 /// The set with more read points, at these numbers, one after the other.
-fn with_unnamed(chance: &mut Chance, set: &Set, places: &[usize]) -> Set {
+pub fn with_unnamed(chance: &mut Chance, set: &Set, places: &[usize]) -> Set {
     let mut set = set.clone();
     for &place in places {
         let name = fresh_name(chance, &set);
@@ -405,7 +408,7 @@ fn meeting(chance: &mut Chance, r: usize, trouble: Trouble) -> Set {
             constraint.literals.insert(0, literal);
             set.constraints.push(constraint);
         }
-        let verdict = judge(&set);
+        let verdict = judge_in_the_old_order(&set);
         if trouble.gives(verdict) && highest.is_there(verdict) {
             return set;
         }
@@ -437,7 +440,8 @@ fn like_a_good_word(chance: &mut Chance, r: usize, trouble: Trouble) -> Set {
         let reads = by_chance(chance, r, count);
         let guard = on(r - 3..r);
         let set = Plan::new(r, trouble, guard).set(chance, &reads);
-        if sorts(&set).iter().any(|sort| sort.ends_with(wanted)) {
+        let sorts = sorts_by(&set, judge_in_the_old_order(&set));
+        if sorts.iter().any(|sort| sort.ends_with(wanted)) {
             return set;
         }
     }

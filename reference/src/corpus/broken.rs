@@ -149,7 +149,7 @@ fn bases(chance: &mut Chance) -> Vec<(Base, usize)> {
 }
 
 /// A case of some bytes, with names and scans for the set they come from.
-fn case(chance: &mut Chance, set: &Set, raw: Vec<u8>) -> Case {
+pub fn case(chance: &mut Chance, set: &Set, raw: Vec<u8>) -> Case {
     let (r, n) = (set.reads.len(), set.outputs.len());
     let first = kept(chance, r, n);
     let scans = scans(chance, set, 4);

@@ -2,6 +2,7 @@
 //! it, and what there must be.
 
 use super::marks::{sorts, Pairs};
+use super::misses;
 use super::skips;
 use super::texts::LONGEST;
 use crate::answer::answer;
@@ -19,7 +20,8 @@ pub type Counts = BTreeMap<String, usize>;
 /// The most scans behind a state.
 pub const MOST_SCANS: usize = 681;
 
-/// What a corpus must have, and how many at least; `skips` has more of it.
+/// What a corpus must have, and how many at least; `skips` and `misses` have
+/// more of it.
 const NEEDED: &[(&str, usize)] = &[
     ("F cases", 5000),
     ("F ACCEPT", 1000),
@@ -130,6 +132,10 @@ const NEEDED: &[(&str, usize)] = &[
     ("S mark 0, 33 that is sent if past sensors read 0", 10),
     ("S mark 0, a past sensor word that is not read", 200),
     ("S mark 1, sent other than at mark 0", 80),
+    ("S 22 in place of 23", 4),
+    ("B 22 in place of 23", 5),
+    ("R 22 in place of 23", 4),
+    ("cases with 22 in place of 23", 130),
     ("pairs of states but for the mark", 150),
     ("pairs whose answers differ", 80),
     ("N cases", 60),
@@ -192,13 +198,14 @@ const NEEDED: &[(&str, usize)] = &[
 ];
 
 /// What a corpus must have and has not, or has too little of.
-pub fn missing(counts: &Counts) -> Vec<&'static str> {
+pub fn missing(counts: &Counts) -> Vec<String> {
+    let needed = NEEDED.iter().chain(skips::NEEDED);
+    let needed = needed.map(|&(key, least)| (String::from(key), least));
     let enough = |key: &str, least: usize| counts.get(key).is_some_and(|&count| count >= least);
-    NEEDED
-        .iter()
-        .chain(skips::NEEDED)
-        .filter(|&&(key, least)| !enough(key, least))
-        .map(|&(key, _)| key)
+    needed
+        .chain(misses::needed())
+        .filter(|(key, least)| !enough(key, *least))
+        .map(|(key, _)| key)
         .collect()
 }
 
@@ -220,6 +227,9 @@ pub fn counts(cases: &[Case]) -> Counts {
         }
         pairs.add(case, &answer);
     }
+    let changed = |kind| counts.get(&format!("{kind} {}", misses::CHANGED));
+    let changed = ["F", "B", "R"].iter().filter_map(changed).sum();
+    counts.insert(format!("cases with {}", misses::CHANGED), changed);
     let (all, differing) = pairs.counts();
     counts.insert(String::from("pairs of states but for the mark"), all);
     counts.insert(String::from("pairs whose answers differ"), differing);
@@ -312,16 +322,28 @@ fn sorts_of_case(case: &Case, answer: &str) -> Vec<String> {
             let mut sorts: Vec<String> = sorts.into_iter().map(String::from).collect();
             sorts.extend(sorts_from_start(file, scans, answer));
             sorts.extend(load(file).iter().flat_map(skips::sorts));
+            sorts.extend(load(file).iter().flat_map(misses::sorts));
             sorts
         }
-        Case::State { file, list } => sorts_of_list(load(file).ok(), list),
+        Case::State { file, list } => {
+            let mut sorts = sorts_of_list(load(file).ok(), list);
+            sorts.extend(group(load(file).ok()));
+            sorts
+        }
         Case::Raw { set, list, .. } => {
             let mut sorts = sorts_of_list(well_formed(set), list);
             sorts.push(sort_of_form(&form(set)));
+            sorts.extend(group(well_formed(set)));
             sorts
         }
-        _ => Vec::new(),
+        Case::Buffers { file, .. } => group(load(file).ok()).into_iter().collect(),
+        Case::Names { .. } => Vec::new(),
     }
+}
+
+/// The group of a rejected set.
+fn group(set: Option<Set>) -> Option<String> {
+    misses::group(&set?).map(String::from)
 }
 
 /// Whether a set made by hand is well formed, and where it fails to be.
@@ -462,6 +484,6 @@ mod tests {
         };
         let counts = counts(&[case]);
         assert_eq!(counts.get("F ACCEPT"), Some(&1));
-        assert!(missing(&counts).contains(&"F ACCEPT"));
+        assert!(missing(&counts).contains(&String::from("F ACCEPT")));
     }
 }

@@ -6,13 +6,15 @@ use crate::damage;
 use crate::file::{load, write};
 use crate::making::{scans, set, Recipe};
 use crate::records::Case;
-use crate::verdict::{judge, Verdict};
+use crate::verdict::{judge_in_the_old_order, Verdict};
 
 const SCANS_EACH: usize = 25;
 const ACCEPTED: usize = 1000;
 const REJECTED: usize = 150;
 
-/// The cases so far, and how many sets were accepted and rejected by 23.
+/// The cases so far, and how many sets were accepted and rejected by 23. These
+/// are counted in document 01's order: what is drawn until there is enough of
+/// them stays what it was before missing vectors came first.
 #[derive(Default)]
 pub struct Files {
     pub cases: Vec<Case>,
@@ -23,7 +25,7 @@ pub struct Files {
 impl Files {
     /// Adds a file, with scans if it is an accepted set.
     pub fn add(&mut self, chance: &mut Chance, file: Vec<u8>) {
-        let verdict = load(&file).map(|set| (judge(&set), set));
+        let verdict = load(&file).map(|set| (judge_in_the_old_order(&set), set));
         let scans = match verdict {
             Ok((Verdict::Accepted, set)) => {
                 self.accepted += 1;
@@ -46,6 +48,7 @@ pub fn cases(chance: &mut Chance) -> Vec<Case> {
         ..Files::default()
     };
     corpus.cases.extend(by_hand::power_up());
+    corpus.cases.extend(by_hand::missing_first());
     corpus.add(chance, damage::P.to_vec());
     add_all_sizes(&mut corpus, chance);
     add_large(&mut corpus, chance);

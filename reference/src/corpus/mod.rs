@@ -9,7 +9,9 @@ pub mod examples;
 pub mod files;
 pub mod long;
 pub mod marks;
+pub mod misses;
 pub mod names;
+pub mod order;
 pub mod paths;
 pub mod sizes;
 pub mod skips;
@@ -41,12 +43,19 @@ pub fn corpus(seed: u64) -> Vec<Case> {
     cases.extend(states::other_marks(&cases));
     cases.extend(edges::cases(&mut part(8)));
     cases.extend(skipping(seed));
+    cases.extend(order::others(&mut part(12)));
     cases
 }
 
-/// The two parts that show what a verdict skips wrongly.
+/// The parts that show what a verdict skips or misses wrongly.
 pub fn skipping(seed: u64) -> Vec<Case> {
     let mut cases = active::cases(&mut part(seed, 9));
     cases.extend(paths::cases(&mut part(seed, 10)));
+    cases.extend(ordering(seed));
     cases
+}
+
+/// Of these the part that shows in which order it goes.
+pub fn ordering(seed: u64) -> Vec<Case> {
+    order::cases(&mut part(seed, 11))
 }

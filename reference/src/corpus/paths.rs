@@ -13,7 +13,7 @@ use crate::records::Case;
 use crate::set::{Constraint, Literal, Point, Set};
 
 /// Where each vector leads; the safe ones lead nowhere.
-type Next = Vec<Option<usize>>;
+pub type Next = Vec<Option<usize>>;
 
 /// Files of all these sets, with scans of those accepted.
 pub fn cases(chance: &mut Chance) -> Vec<Case> {
@@ -90,7 +90,7 @@ fn along(order: &[usize]) -> Next {
 }
 
 /// Lets each of these vectors lead to the one behind it.
-fn lead(next: &mut Next, order: &[usize]) {
+pub fn lead(next: &mut Next, order: &[usize]) {
     for pair in order.windows(2) {
         next[pair[0]] = Some(pair[1]);
     }
@@ -106,7 +106,7 @@ fn outputs(next: &Next) -> usize {
     next.len().ilog2() as usize
 }
 
-fn steps(chance: &mut Chance, next: &Next, guard: &[Literal]) -> Vec<Constraint> {
+pub fn steps(chance: &mut Chance, next: &Next, guard: &[Literal]) -> Vec<Constraint> {
     let mut constraints = Vec::new();
     for (from, to) in next.iter().enumerate() {
         if let Some(to) = to {

@@ -43,7 +43,7 @@ pub fn cases(chance: &mut Chance) -> Vec<Case> {
 }
 
 /// No bytes, one, and sizes around each length that is needed.
-fn sizes(file: &[u8]) -> Vec<u16> {
+pub fn sizes(file: &[u8]) -> Vec<u16> {
     let mut sizes = vec![0, 1];
     if let Ok(set) = load(file) {
         let needed = [

@@ -14,12 +14,13 @@ const MOST_READS: usize = 11;
 const MOST_OUTPUTS: usize = 7;
 
 /// The places of a small memory of masks; each has one place, by its remainder.
-const PLACES: u64 = 251;
+pub const PLACES: u64 = 251;
 
 /// Wrong readings that take a failing word for a good one before it, told from
-/// the good mask, the failing mask and the mask of the simple constraints.
-type Reading = (&'static str, fn(u64, u64, u64) -> bool);
-const READINGS: &[Reading] = &[
+/// the good mask, the failing mask and the mask of the simple constraints. Before
+/// a word without a safe vector each word that has one is good, whatever its walks.
+pub type Reading = (&'static str, fn(u64, u64, u64) -> bool);
+pub const READINGS: &[Reading] = &[
     ("masks counted modulo 251", |good, failing, _| {
         good % PLACES == failing % PLACES
     }),
@@ -152,7 +153,7 @@ pub fn mask(set: &Set, word: u32) -> u64 {
 }
 
 /// The mask of the constraints of a sort.
-fn mask_of(set: &Set, is_in: impl Fn(&Constraint) -> bool) -> u64 {
+pub fn mask_of(set: &Set, is_in: impl Fn(&Constraint) -> bool) -> u64 {
     let constraints = set.constraints.iter().enumerate();
     constraints
         .map(|(place, constraint)| u64::from(is_in(constraint)) << place)
@@ -162,13 +163,18 @@ fn mask_of(set: &Set, is_in: impl Fn(&Constraint) -> bool) -> u64 {
 /// What a set counts as, each sort once: how its verdict is, and of what sort
 /// the words and walks are that it depends on.
 pub fn sorts(set: &Set) -> Vec<String> {
+    sorts_by(set, judge(set))
+}
+
+/// The same by another verdict.
+pub fn sorts_by(set: &Set, verdict: Verdict) -> Vec<String> {
     if set.reads.len() > MOST_READS || set.outputs.len() > MOST_OUTPUTS {
         return Vec::new();
     }
     let words = 1u32 << set.reads.len();
     let masks: Vec<u64> = (0..words).map(|word| mask(set, word)).collect();
     let mut sorts = sorts_of_points(set);
-    let number = match judge(set) {
+    let number = match verdict {
         Verdict::Accepted => {
             sorts.extend(sorts_of_masks(&masks));
             sorts.extend(sorts_of_walks(set, &firsts(&masks)));

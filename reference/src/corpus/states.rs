@@ -67,7 +67,7 @@ fn with_pasts(chance: &mut Chance, recipe: Recipe) -> Set {
 
 /// A state of a set with pasts of any allowed value, now and then another,
 /// either mark, and scans.
-fn by_hand(chance: &mut Chance, set: &Set, count: usize) -> Case {
+pub fn by_hand(chance: &mut Chance, set: &Set, count: usize) -> Case {
     let first = kept(chance, set.reads.len(), set.outputs.len());
     let scans = scans(chance, set, count);
     Case::State {
