@@ -18,7 +18,7 @@ ghost use Rattle.verdict.specs.way.Seen.{Known};
 // The first word without a safe vector, or 2 ^ r; those below `from` are known to have one, and so are the words whose masks are kept. A word is left at its first
 // safe vector, and its mask is kept.
 pub fn first_without(set: Set, from: u32, seen: &mut [u64; PLACES]) -> u32
-    requires { ⌜ (wellFormed set ≡ true) × (from ≤ 2 ^ set .r) × (some from (lacks set) ≡ false) × Known set (lacks set) (now seen) ⌝ }
+    requires { ⌜ (wellFormed set ≡ true) × (some from (lacks set) ≡ false) × (from ≤ 2 ^ set .r) × Known set (lacks set) (now seen) ⌝ }
     ensures { λ r. ⌜ r ≡ first (2 ^ set .r) (lacks set) ⌝ }
 {
     let words = 1u32 << set.r;

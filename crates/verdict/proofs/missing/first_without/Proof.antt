@@ -61,7 +61,7 @@ loop-holds c =
     let s = c .before .before .before in
     let f = few s in
     let words = one-shl 32 (s .args .set .r) (omega (arith, f)) in
-    (words, one-shl 16 (s .args .set .n) (omega (arith, f)), omega (arith, words, s .pre .1), s .pre .2, s .pre .3)
+    (words, one-shl 16 (s .args .set .n) (omega (arith, f)), omega (arith, words, s .pre .2), s .pre .1, s .pre .3)
 
 -- ---- the places: a word, its active constraints, and what looking through its vectors tells
 

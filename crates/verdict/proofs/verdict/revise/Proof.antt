@@ -60,7 +60,7 @@ add-first-without c = omega (arith, within (c .before), pow-mono {i = set (c .be
 first-without-requires : tie.Need-first-without-requires
 first-without-requires c κs =
     let f = c .before .before in
-    (formed f, omega (arith, within f), none-up-to (set f) (formed f) (word f) (request f) (found f), f .before .before .pre .2)
+    (formed f, none-up-to (set f) (formed f) (word f) (request f) (found f), omega (arith, within f), f .before .before .pre .2)
 
 cast-if1 : tie.Need-cast-if1
 cast-if1 c = omega (arith, few (c .before .before .before .before))
