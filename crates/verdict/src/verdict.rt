@@ -88,7 +88,8 @@ fn first_failing(set: Set, seen: &mut [u64; PLACES], marks: &mut [u8]) -> Verdic
     told_by(words, any, w, g)
 }
 
-// The verdict by the first word that fails: an endless walk there gives way to a later word without a safe vector, where no change of ranks would help.
+// The verdict on the words, by the first of them that fails: an endless walk there gives way to a later word without a safe vector, where no change of ranks would
+// help.
 fn revise(set: Set, found: Verdict, seen: &mut [u64; PLACES]) -> Verdict
     requires { ⌜ (wellFormed set ≡ true) × (found ≡ firstFailing set) × Known set (lacks set) (now seen) ⌝ }
     ensures { λ r. ⌜ r ≡ judgeWords set ⌝ }
@@ -105,16 +106,6 @@ fn revise(set: Set, found: Verdict, seen: &mut [u64; PLACES]) -> Verdict
     }
 }
 
-// The verdict on the words of a well-formed set, with a byte of scratch for each vector.
-fn judge_words(set: Set, marks: &mut [u8]) -> Verdict
-    requires { ⌜ (wellFormed set ≡ true) × (length (now marks) ≡ scratchBytes (set .n)) ⌝ }
-    ensures { λ r. ⌜ r ≡ judgeWords set ⌝ }
-{
-    let mut seen = [0u64; PLACES];
-    let found = first_failing(set, &mut seen, marks);
-    revise(set, found, &mut seen)
-}
-
 // The verdict on a set, with scratch of at least `scratchBytes n` bytes, one for each vector: of those the content afterwards is free, later bytes are untouched.
 pub fn judge(set: Set, scratch: &mut [u8]) -> Verdict
     ensures { λ r. ⌜ r ≡ judgeOf set (length (now (scratch .entry))) ⌝ }
@@ -127,5 +118,7 @@ pub fn judge(set: Set, scratch: &mut [u8]) -> Verdict
     if scratch.len() < vectors {
         return Verdict::ShortScratch;
     }
-    judge_words(set, &mut scratch[0..vectors])
+    let mut seen = [0u64; PLACES];
+    let found = first_failing(set, &mut seen, &mut scratch[0..vectors]);
+    revise(set, found, &mut seen)
 }

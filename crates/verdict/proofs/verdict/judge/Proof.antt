@@ -12,6 +12,7 @@ use Rattle.scan.specs.Shape.{wellFormed}
 use Rattle.scan.proofs.ShapeLaws.{counts}
 use Rattle.verdict.specs.Judge.{scratchBytes}
 use Rattle.verdict.proofs.JudgeLaws.{scratch-is, bad-set, short-scratch, judged, later-kept}
+use Rattle.verdict.proofs.SeenLaws.{known-none, known-vectors}
 use borrow.Author.Needs.{needs}
 use Rattle.verdict.proofs.verdict.judge.Statement.{statement}
 use Rattle.verdict.proofs.verdict.judge.Tie as tie
@@ -47,35 +48,43 @@ returns-2 c =
     let a = e .before .before .before .args in
     (short-scratch (a .set) (length (a .scratch .now)) (formed e) (omega (arith, vectors-is e, c .if2 .taken)), refl)
 
-sub-judge-words : tie.Need-sub-judge-words
-sub-judge-words c = search needs
+sub-first-failing : tie.Need-sub-first-failing
+sub-first-failing c = search needs
 
-part-judge-words-start : tie.Need-part-judge-words-start
-part-judge-words-start c = search needs
+part-first-failing-start : tie.Need-part-first-failing-start
+part-first-failing-start c = search needs
 
-part-judge-words-end : tie.Need-part-judge-words-end
-part-judge-words-end c = search needs
+part-first-failing-end : tie.Need-part-first-failing-end
+part-first-failing-end c = search needs
 
-judge-words-requires : tie.Need-judge-words-requires
-judge-words-requires c κs =
-    let e = c .before .before .before in
+first-failing-requires : tie.Need-first-failing-requires
+first-failing-requires c κs =
+    let f = c .before .before in
+    let e = f .before .before in
     let a = e .before .before .before .args in
-    let room : shifted (a .set .n) - 0 ≤ length (a .scratch .now) = omega (arith, c .before .if2 .left) in
-    (formed e, length-take-le (shifted (a .set .n) - 0) (a .scratch .now) room ∙ part-is e)
+    let room : shifted (a .set .n) - 0 ≤ length (a .scratch .now) = omega (arith, f .if2 .left) in
+    (formed e, length-take-le (shifted (a .set .n) - 0) (a .scratch .now) room ∙ part-is e, known-none (a .set) (formed e))
+
+revise-requires : tie.Need-revise-requires
+revise-requires c κs =
+    let j = c .before .before .before in
+    let e = j .before .before .before .before .before in
+    let a = e .before .before .before .args in
+    (formed e, j .first-failing .ensures .0, known-vectors (a .set) _ (j .first-failing .ensures .1))
 
 same-length : tie.Need-same-length
 same-length c = search needs
 
 returns-3 : tie.Need-returns-3
 returns-3 c =
-    let j = c .before .before in
-    let f = j .before .before in
+    let j = c .before .before .before .before in
+    let f = j .before .before .before in
     let e = f .before .before in
     let a = e .before .before .before .args in
     let room : scratchBytes (a .set .n) ≤ length (a .scratch .now) = omega (arith, vectors-is e, f .if2 .left) in (
-      j .judge-words .ensures ∙ judged (a .set) (length (a .scratch .now)) (formed e) room,
-      later-kept (a .set) (length (a .scratch .now)) (formed e) room (shifted (a .set .n) - 0) (part-is e) (j .judge-words .last .1 .0) (a .scratch .now)
-          (j .judge-words .kept .1 .0 ∙ length-take-le (shifted (a .set .n) - 0) (a .scratch .now) (omega (arith, f .if2 .left))),
+      c .revise .ensures ∙ judged (a .set) (length (a .scratch .now)) (formed e) room,
+      later-kept (a .set) (length (a .scratch .now)) (formed e) room (shifted (a .set .n) - 0) (part-is e) (j .first-failing .last .1 .1 .0) (a .scratch .now)
+          (j .first-failing .kept .1 .1 .0 ∙ length-take-le (shifted (a .set .n) - 0) (a .scratch .now) (omega (arith, f .if2 .left))),
     )
 
 pub judge-spec : {M : Type 1} → statement M
@@ -86,9 +95,10 @@ judge-spec =
     returns
     shl-vectors
     returns-2
-    sub-judge-words
-    part-judge-words-start
-    part-judge-words-end
-    judge-words-requires
+    sub-first-failing
+    part-first-failing-start
+    part-first-failing-end
+    first-failing-requires
+    revise-requires
     same-length
     returns-3)
