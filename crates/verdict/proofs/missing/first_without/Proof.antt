@@ -7,9 +7,9 @@ use Prim.Native.Nat.{ℕ, _-_, _^_, _≤_, _<_}
 use native.Mathlib.Omega.{arith}
 use lib.Bits.{bitAnd}
 use lib.Pow.{pow-mono}
-use borrow.Author.Tests.{not-true, not-false}
+use borrow.Author.Tests.{not-false}
 use Rattle.words.specs.Word.{without}
-use Rattle.words.specs.Loop.{some, first}
+use Rattle.words.specs.Loop.{some}
 use Rattle.words.proofs.LoopLaws.{some-false-at, first-is, first-none}
 use Rattle.words.proofs.ShiftLaws.{one-shl}
 use Rattle.words.proofs.LoopTurns.{some-miss}
