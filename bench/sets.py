@@ -40,12 +40,12 @@ def falling(r, n, m, read_literals, seed):
     return Set(names(b"s", r), names(b"a", n), constraints)
 
 
-def circling_at_word_0(r, n, m, turn_on, seed):
+def circling_at_word_0(r, n, m, late, seed):
     """The constraints of `falling` on all outputs but the first two, and a pair on these that is active at word 0 alone and makes the walk from
-    output 0 go round: 23 at word 0, request 1. Vector 0 is safe at every word. With `turn_on` plain and negated are exchanged, so that passes only
-    turn outputs on, and the first safe vector is a late one."""
+    output 0 go round: 23 at word 0, request 1. Vector 0 is safe at every word; or, with `late`, plain and negated are exchanged, so that passes
+    only turn outputs on, and the first safe vector is a late one."""
     falls = falling(r, n - 2, m - 2, 1, seed)
-    others = [[(k + 2, out, neg ^ turn_on, rank) if out else (k, out, neg, rank) for k, out, neg, rank in c] for c in falls.constraints]
+    others = [[(k + 2, out, neg ^ late, rank) if out else (k, out, neg, rank) for k, out, neg, rank in c] for c in falls.constraints]
     off = [(k, False, True, 0) for k in range(r)]
     pair = [off + [(0, True, False, 1), (1, True, negated, 0)] for negated in (True, False)]
     return Set(falls.reads, names(b"a", n), others + pair)

@@ -94,7 +94,7 @@ module _ (s : Set) (room : ℕ) (ok : wellFormed s ≡ true) (enough : scratchBy
   pub means : (v : Verdict) → judgeOf s room ≡ v → Means s v
   means v e = subst (Means s) e (verdict-means s ok room enough)
 
-  pub is : (v : Verdict) → Means s v → judgeOf s room ≡ v
+  is : (v : Verdict) → Means s v → judgeOf s room ≡ v
   is = verdict-of s ok room enough
 
   pub exact-verdict : ExactVerdict s room

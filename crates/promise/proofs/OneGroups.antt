@@ -54,21 +54,21 @@ module _ (s : Set) (ok : wellFormed s ≡ true) where
     },
   )
 
-  first-is : (v : Verdict) → firstFailing s ≡ v → MeansFailing s v
-  first-is v e = subst (MeansFailing s) e (failing-means s ok)
+  failing-is : (v : Verdict) → firstFailing s ≡ v → MeansFailing s v
+  failing-is v e = subst (MeansFailing s) e (failing-means s ok)
 
-  pub old-order : OldOrder s
+  old-order : OldOrder s
   old-order = record {
     accepts = (
-      λ e w h. good-iff s ok w .0 (first-is Accepted (told-accepted (firstFailing s) e) w h),
+      λ e w h. good-iff s ok w .0 (failing-is Accepted (told-accepted (firstFailing s) e) w h),
       λ m. ap verdictTold (failing-of s ok Accepted (λ w h. good-iff s ok w .1 (m w h))),
     );
     names-word = λ w. (
-      λ e. fails-without-iff w .0 (first-is (NoVector w) (told-word (firstFailing s) w e)),
+      λ e. fails-without-iff w .0 (failing-is (NoVector w) (told-word (firstFailing s) w e)),
       λ m. ap verdictTold (failing-of s ok (NoVector w) (fails-without-iff w .1 m)),
     );
     names-request = λ w g. (
-      λ e. fails-endless-iff w g .0 (first-is (NoEnd w g) (told-request (firstFailing s) w g e)),
+      λ e. fails-endless-iff w g .0 (failing-is (NoEnd w g) (told-request (firstFailing s) w g e)),
       λ m. ap verdictTold (failing-of s ok (NoEnd w g) (fails-endless-iff w g .1 m)),
     );
   }
