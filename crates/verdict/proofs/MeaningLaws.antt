@@ -17,6 +17,7 @@ use Rattle.verdict.specs.declared.verdict.Verdict.{Verdict}
 use Rattle.verdict.specs.declared.verdict.Verdict.the-variants.{Accepted, BadSet, ShortScratch, NoVector, NoEnd}
 use Rattle.verdict.specs.Judge.{endless, lacks, hasEndless, vectorAt, endlessAt, judgeWords, scratchBytes, judgeOf}
 use Rattle.verdict.specs.Meaning.{Good, FirstWithout, FirstEndless, Means, Bad}
+use Rattle.verdict.proofs.JudgeLaws.{judged}
 use Rattle.verdict.proofs.WordTests.{has-lacks, lacks-has, none-lacks, lacks-none, ends-of, endless-of, reaches-of, never-of, all-end, end-all, one-never}
 
 module _ (s : Set) where
@@ -96,13 +97,9 @@ module _ (s : Set) where
     -- ---- the verdict, given scratch enough
 
     module _ (room : ℕ) (enough : scratchBytes (s .n) ≤ room) where
-      judges : judgeOf s room ≡ judgeWords s
-      unfolding judgeOf
-      judges = rw (ok, le-ltb room (scratchBytes (s .n)) enough)
-
       -- whatever verdict's meaning holds is the verdict
       pub verdict-of : (v : Verdict) → Means s v → judgeOf s room ≡ v
-      verdict-of v m = judges ∙ means-words v m
+      verdict-of v m = sym (judged s room ok enough) ∙ means-words v m
 
       -- and the verdict's meaning holds
       pub verdict-means : Means s (judgeOf s room)
