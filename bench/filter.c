@@ -249,6 +249,23 @@ static void build(const struct set *s, const struct literals *l, uint64_t active
     }
 }
 
+// Of such a table what judging a vector needs: nothing is held, every constraint of the mask has an entry, simple or not, and what yields is left out.
+static void enter(const struct literals *l, size_t m, uint64_t active, struct table *t)
+{
+    t->f0 = t->f1 = 0;
+    t->count = 0;
+    for (size_t i = 0; i < m; i++)
+        if ((active >> i & 1) != 0) {
+            t->plain[t->count] = l->out_plain[i];
+            t->named[t->count] = l->out_plain[i] | l->out_negated[i];
+            t->count++;
+        }
+    for (; t->count % LANES != 0; t->count++) {
+        t->plain[t->count] = 1;
+        t->named[t->count] = 0;
+    }
+}
+
 static bool are_reads_true(const struct constraint *c, uint32_t w)
 {
     return (w & c->read_plain) == c->read_plain && (w & c->read_negated) == 0;
@@ -368,7 +385,7 @@ static uint32_t first_without(const struct set *s, const struct literals *l, uin
         if (seen[place_of(active)] == active)
             continue;
         struct table t;
-        build(s, l, active, &t);
+        enter(l, s->m, active, &t);
         if (!is_any_safe(&t, (size_t)1 << s->n))
             return w;
         seen[place_of(active)] = active;

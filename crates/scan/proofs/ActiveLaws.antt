@@ -47,7 +47,8 @@ module _ (s : Set) (ok : wellFormed s ≡ true) where
   pub counted-all : counted s ≡ s .m
   counted-all = min-eq-left (counts s ok .m-le)
 
-  column-at : (f : Constraint → ℕ) (i : ℕ) → i < s .m → getD (column s f) i 0 ≡ f (constraint s i)
+  -- place i of a column is constraint i's
+  pub column-at : (f : Constraint → ℕ) (i : ℕ) → i < s .m → getD (column s f) i 0 ≡ f (constraint s i)
   unfolding columnUpto
   column-at f i h =
       let l : i < counted s = subst (λ (m : ℕ). i < m) (sym counted-all) h in

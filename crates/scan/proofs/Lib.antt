@@ -9,4 +9,5 @@ pub mod WalkLaws
 pub mod SameDue
 pub mod ActiveLaws
 pub mod TableLaws
+pub mod EntriesLaws
 pub mod LoneRanks

@@ -8,7 +8,7 @@ use native.Mathlib.Nat.{min-eq-left}
 use native.Mathlib.Numerals.{add-one}
 use native.Mathlib.Omega.{arith}
 use lib.Dec.{eqb}
-use lib.ListN.{length, getD, set, length-set, getD-replicate}
+use lib.ListN.{length, getD, set, replicate, length-set, getD-replicate}
 use lib.Seq.{getD-set-same, getD-set-other}
 use lib.Bits.{bitAnd, bitOr, bitXor, or-zero-r, and-zero-r}
 use Rattle.words.specs.Word.{bit, without, meets}
@@ -72,11 +72,11 @@ module _ (s : Set) (h : Holds) (entered : ℕ) where
 old : (l : List ℕ) (n a j : ℕ) → (j ≡ n → ⊥) → getD l j 0 ≡ getD (set l n a) j 0
 old l n a j h = sym (getD-set-other l n j a 0 h)
 
-new : (l : List ℕ) (n a : ℕ) → n < length l → a ≡ getD (set l n a) n 0
+pub new : (l : List ℕ) (n a : ℕ) → n < length l → a ≡ getD (set l n a) n 0
 new l n a h = sym (getD-set-same l n a 0 h)
 
 -- an entry stored at n leaves the others as they were
-true-old : (plain named : List ℕ) (n p q v j : ℕ) → (j ≡ n → ⊥) → entryTrue plain named v j ≡ entryTrue (set plain n p) (set named n q) v j
+pub true-old : (plain named : List ℕ) (n p q v j : ℕ) → (j ≡ n → ⊥) → entryTrue plain named v j ≡ entryTrue (set plain n p) (set named n q) v j
 unfolding entryTrue
 true-old plain named n p q v j l = λ k. eqb (bitAnd v (old named n q j l k)) (old plain n p j l k)
 
@@ -89,9 +89,10 @@ pub record Formed (s : Set) (h : Holds) (t : Table) : Type 0 where
   pub flip-places : length (t .flip) ≡ mostConstraints
   pub spare : (v j : ℕ) → t .count ≤ j → j < mostConstraints → entryTrue (t .plain) (t .named) v j ≡ false
 
-empty-spare : (s : Set) (h : Holds) (v j : ℕ) → j < mostConstraints → entryTrue (emptyTable s h .plain) (emptyTable s h .named) v j ≡ false
+-- and none is true before one is stored
+pub empty-spare : (v j : ℕ) → j < mostConstraints → entryTrue (replicate mostConstraints 1) (replicate mostConstraints 0) v j ≡ false
 unfolding entryTrue
-empty-spare s h v j l =
+empty-spare v j l =
     ap₂ (λ (named plain : ℕ). eqb (bitAnd v named) plain) (getD-replicate mostConstraints j 0 0 l) (getD-replicate mostConstraints j 1 0 l)
     ∙ ap (λ (x : ℕ). eqb x 1) (and-zero-r v)
 
@@ -104,7 +105,7 @@ upto-formed s h entered i =
       plain-places = refl;
       named-places = refl;
       flip-places = refl;
-      spare = λ v j l b. empty-spare s h v j b;
+      spare = λ v j l b. empty-spare v j b;
     })
     (λ k l f e. let t = tableUpto s h entered k in record {
       holds-is = f .holds-is;
@@ -196,24 +197,24 @@ module _ (s : Set) (w : ℕ) (h : Holds) (entered m : ℕ)
 -- ---- the whole table
 
 -- the entries that fill it up flip nothing, and none is true
-module _ (t : Table) (v : ℕ) (few : t .count ≤ mostConstraints)
-    (spare : (j : ℕ) → t .count ≤ j → j < mostConstraints → entryTrue (t .plain) (t .named) v j ≡ false) where
-  filled-fits : min (filledUp (t .count)) mostConstraints ≡ filledUp (t .count)
+module _ (plain named : List ℕ) (count v : ℕ) (few : count ≤ mostConstraints)
+    (spare : (j : ℕ) → count ≤ j → j < mostConstraints → entryTrue plain named v j ≡ false) where
+  filled-fits : min (filledUp count) mostConstraints ≡ filledUp count
   filled-fits = min-eq-left {m = mostConstraints} (omega arith)
 
-  flips-filled : flipsOver (t .plain) (t .named) (t .flip) (filledUp (t .count)) v ≡ gather (t .count) (entryFlips (t .plain) (t .named) (t .flip) v)
+  flips-filled : (flip : List ℕ) → flipsOver plain named flip (filledUp count) v ≡ gather count (entryFlips plain named flip v)
   unfolding flipsOver entryFlips
-  flips-filled =
-      ap (λ (k : ℕ). gather k (entryFlips (t .plain) (t .named) (t .flip) v)) filled-fits
-      ∙ still (λ k. gather k (entryFlips (t .plain) (t .named) (t .flip) v)) (t .count) (filledUp (t .count)) (omega arith)
-      (λ k l b. gather-more k _ ∙ ap (λ (x : Bool). bitOr (gather k (entryFlips (t .plain) (t .named) (t .flip) v)) (cond x (getD (t .flip) k 0) 0)) (spare k l (omega arith)) ∙ or-zero-r _)
+  flips-filled flip =
+      ap (λ (k : ℕ). gather k (entryFlips plain named flip v)) filled-fits
+      ∙ still (λ k. gather k (entryFlips plain named flip v)) count (filledUp count) (omega arith)
+      (λ k l b. gather-more k _ ∙ ap (λ (x : Bool). bitOr (gather k (entryFlips plain named flip v)) (cond x (getD flip k 0) 0)) (spare k l (omega arith)) ∙ or-zero-r _)
 
-  any-filled : anyTrue (t .plain) (t .named) (filledUp (t .count)) v ≡ some (t .count) (entryTrue (t .plain) (t .named) v)
+  pub any-filled : anyTrue plain named (filledUp count) v ≡ some count (entryTrue plain named v)
   unfolding anyTrue
   any-filled =
-      ap (λ (k : ℕ). some k (entryTrue (t .plain) (t .named) v)) filled-fits
-      ∙ still (λ k. some k (entryTrue (t .plain) (t .named) v)) (t .count) (filledUp (t .count)) (omega arith)
-      (λ k l b. some-more k _ ∙ ap (λ (x : Bool). some k (entryTrue (t .plain) (t .named) v) || x) (spare k l (omega arith)) ∙ or-false _)
+      ap (λ (k : ℕ). some k (entryTrue plain named v)) filled-fits
+      ∙ still (λ k. some k (entryTrue plain named v)) count (filledUp count) (omega arith)
+      (λ k l b. some-more k _ ∙ ap (λ (x : Bool). some k (entryTrue plain named v) || x) (spare k l (omega arith)) ∙ or-false _)
 
 -- what the code makes of the columns of a set and a mask is its table
 pub made-table : (s : Set) (l : Columns) → l ≡ columnsOf s → (active : ℕ) (t : Table)
@@ -280,12 +281,12 @@ module _ (s : Set) (w : ℕ) (ok : wellFormed s ≡ true) where
   unfolding passOver pass
   table-pass v =
       ap (λ (t : Table). passIn t v) table-is
-      ∙ ap (bitXor v) (flips-filled entries v few (formed .spare v) ∙ sym (told .flipped v))
+      ∙ ap (bitXor v) (flips-filled (entries .plain) (entries .named) (entries .count) v few (formed .spare v) (entries .flip) ∙ sym (told .flipped v))
 
   pub table-safe : (v : ℕ) → safeIn (tableOf s (activeOf s w)) v ≡ safe s w v
   unfolding safeOver
   table-safe v =
-      let anys = any-filled entries v few (formed .spare v) ∙ sym (told .anys v) in
+      let anys = any-filled (entries .plain) (entries .named) (entries .count) v few (formed .spare v) ∙ sym (told .anys v) in
       ap (λ (t : Table). safeIn t v) table-is
       ∙ (λ i. meets (formed .holds-is i .f1) (formed .holds-is i .f0) v && not (anys i)) ∙ sym (safe-table s w v ok)
 

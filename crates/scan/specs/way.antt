@@ -2,3 +2,4 @@
 pub mod Columns
 pub mod Holds
 pub mod Table
+pub mod Entries

@@ -7,11 +7,14 @@ mod active; // the constraints that are active at a read word
 mod holds; // the outputs that simple constraints hold, and the start vector
 mod pass; // which outputs of a constraint yield
 mod table; // the table of the active constraints, and a pass and safety over it
+mod entries; // the entries of the active constraints alone, for safety where no pass is made
 mod walk; // one pass after another while the vector is unsafe
 
 pub use active::active_at;
 pub use columns::Columns;
 pub use columns::columns_of;
+pub use entries::Entries;
+pub use entries::enter;
 pub use holds::Holds;
 pub use holds::start_vector;
 pub use set::Constraint;

@@ -33,13 +33,13 @@ pub struct Table {
 }
 
 // An entry that names no output and asks for this is never true.
-const NEVER: u16 = 1;
+pub const NEVER: u16 = 1;
 
 // The entries that are gone over at a time.
 const LANES: usize = 16;
 
 // The next multiple of sixteen.
-fn fill_up(count: usize) -> usize
+pub fn fill_up(count: usize) -> usize
     requires { ⌜ count ≤ mostConstraints ⌝ }
     ensures { λ r. ⌜ r ≡ filledUp count ⌝ }
 {

@@ -162,16 +162,12 @@ module _ (s : Set) (ok : wellFormed s ≡ true) (w : ℕ) (t : Table) (et : t �
   pass-is : passIn t ≡ pass s w
   pass-is = fun-ext (λ v. ap (λ (x : Table). passIn x v) et ∙ table-pass s w ok v)
 
-  -- looking through the vectors tells whether there is a safe one
-  pub any-safe : (len : ℕ) (b : Bool) → len ≡ 2 ^ s .n → b ≡ some len (safeIn t) → b ≡ hasVector s w
-  unfolding hasVector
-  any-safe len b el eb = eb ∙ ap₂ some el safe-is
-
   -- once the safe vectors are marked, the marks are right, and it is told whether there is a safe vector
   pub marked-safe : (len : ℕ) (b : Bool) (x : List ℕ) → len ≡ 2 ^ s .n → b ≡ some len (safeIn t) → x ≡ markedWhere len (safeIn t)
       → (b ≡ hasVector s w) × Ready s w x
+  unfolding hasVector
   marked-safe len b x el eb ex = (
-    any-safe len b el eb,
+    eb ∙ ap₂ some el safe-is,
     subst (Ready s w) (sym (ex ∙ ap₂ markedWhere el safe-is)) (ready-safe s ok w),
   )
 

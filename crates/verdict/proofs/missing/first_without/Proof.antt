@@ -1,14 +1,12 @@
 -- `verdict::missing::first_without` meets its contract. The invariant: no word passed is without a safe vector, and every mask kept is one of words with one.
 -- Assumes nothing.
-use mathlib.Core.Path.{_≡_, sym, ap, _∙_, subst}
+use mathlib.Core.Path.{_≡_, sym, ap, ap₂, _∙_, subst, fun-ext}
 use mathlib.Core.Logic.{⊎-elim}
 use mathlib.Core.Bool.{Bool, true, false, not}
 use Prim.Native.Nat.{ℕ, _-_, _^_, _≤_, _<_}
 use native.Mathlib.Omega.{arith}
-use lib.Bits.{bitAnd}
 use lib.Pow.{pow-mono}
 use borrow.Author.Tests.{not-false}
-use Rattle.words.specs.Word.{without}
 use Rattle.words.specs.Loop.{some}
 use Rattle.words.proofs.LoopLaws.{some-false-at, first-is, first-none}
 use Rattle.words.proofs.ShiftLaws.{one-shl}
@@ -17,15 +15,15 @@ use Rattle.scan.specs.declared.set.Set.{Set}
 use Rattle.scan.specs.Set.{mostReads, mostOutputs}
 use Rattle.scan.specs.Shape.{wellFormed}
 use Rattle.scan.specs.Active.{activeOf}
-use Rattle.scan.specs.declared.table.Table.{Table}
-use Rattle.scan.specs.way.Holds.{holdsBy}
-use Rattle.scan.specs.way.Table.{tableBy, tableOf, safeIn}
+use Rattle.scan.specs.declared.entries.Entries.{Entries}
+use Rattle.scan.specs.Constraint.{hasVector}
+use Rattle.scan.specs.way.Table.{safeOver}
+use Rattle.scan.specs.way.Entries.{entriesBy}
 use Rattle.scan.proofs.ShapeLaws.{counts}
 use Rattle.scan.proofs.ActiveLaws.{made-active}
-use Rattle.scan.proofs.TableLaws.{made-table}
+use Rattle.scan.proofs.EntriesLaws.{made-entries}
 use Rattle.verdict.specs.Judge.{lacks}
 use Rattle.verdict.specs.way.Seen.{Known}
-use Rattle.verdict.proofs.WordMarks.{any-safe}
 use Rattle.verdict.proofs.SeenLaws.{known-hit, known-more, lacks-alike}
 use borrow.Author.Needs.{needs}
 use Rattle.verdict.proofs.missing.first_without.Statement.{statement}
@@ -93,18 +91,14 @@ module _ (i : tie.After-is-seen Inv-loop μ-loop) where
   active-told : looked .active-at .result ≡ activeOf (set at) word
   active-told = made-active (set at) (formed at) word (at .before .columns-of .result) (at .before .columns-of .ensures) (looked .active-at .result) (looked .active-at .ensures)
 
-  -- looking through the vectors of its table tells whether it has a safe one
-  lacks-told : (t : Table)
-      → t ≡ tableBy (set at)
-      (holdsBy (at .before .columns-of .result .«out_plain») (at .before .columns-of .result .«out_negated») (set at .m)
-      (bitAnd (looked .active-at .result) (at .before .columns-of .result .simple)))
-      (without (looked .active-at .result) (at .before .columns-of .result .simple))
-      → (vectors : ℕ) → vectors ≡ 2 ^ set at .n → (any : Bool) → any ≡ some vectors (safeIn t) → not any ≡ lacks (set at) word
-  unfolding lacks
-  lacks-told t et vectors ev any ea =
-      ap not (any-safe (set at) (formed at) word t
-      (made-table (set at) (at .before .columns-of .result) (at .before .columns-of .ensures) (looked .active-at .result) t et ∙ ap (tableOf (set at)) active-told)
-      vectors any ev ea)
+  -- looking through the vectors by its entries tells whether it has a safe one
+  lacks-told : (e : Entries)
+      → e ≡ entriesBy (at .before .columns-of .result .«out_plain») (at .before .columns-of .result .«out_negated») (set at .m) (looked .active-at .result)
+      → (vectors : ℕ) → vectors ≡ 2 ^ set at .n → (any : Bool) → any ≡ some vectors (safeOver 0 0 (e .plain) (e .named) (e .count)) → not any ≡ lacks (set at) word
+  unfolding lacks hasVector
+  lacks-told e ee vectors ev any ea =
+      ap not (ea ∙ ap₂ some ev
+      (fun-ext (made-entries (set at) (formed at) word (at .before .columns-of .result) (at .before .columns-of .ensures) (looked .active-at .result) active-told e ee)))
 
 active-at-requires : tie.Need-active-at-requires Inv-loop μ-loop
 active-at-requires c κs = search needs
@@ -112,8 +106,8 @@ active-at-requires c κs = search needs
 is-seen-requires : tie.Need-is-seen-requires Inv-loop μ-loop
 is-seen-requires c κs = search needs
 
-build-by-requires : tie.Need-build-by-requires Inv-loop μ-loop
-build-by-requires c κs = search needs
+enter-requires : tie.Need-enter-requires Inv-loop μ-loop
+enter-requires c κs = search needs
 
 is-any-safe-requires : tie.Need-is-any-safe-requires Inv-loop μ-loop
 is-any-safe-requires c κs = search needs
@@ -125,7 +119,7 @@ returns c =
     let i = b .before .before .before .before .before in
     let o = at i in
     sym (first-is (2 ^ set o .r) (word i) (lacks (set o)) (omega (arith, o .loop .inv .0, looked i .before .before .before .before .loop-test .taken))
-    (sym (lacks-told i (b .build-by .result) (b .build-by .ensures) _ (o .loop .inv .1) (k .is-any-safe .result) (k .is-any-safe .ensures)) ∙ c .if2 .taken)
+    (sym (lacks-told i (b .enter .result) (b .enter .ensures) _ (o .loop .inv .1) (k .is-any-safe .result) (k .is-any-safe .ensures)) ∙ c .if2 .taken)
     (before o))
 
 keep-seen-requires : tie.Need-keep-seen-requires Inv-loop μ-loop
@@ -183,7 +177,7 @@ first-without-spec =
     loop-holds
     active-at-requires
     is-seen-requires
-    build-by-requires
+    enter-requires
     is-any-safe-requires
     returns
     keep-seen-requires
