@@ -1,5 +1,5 @@
 //! Document 01's "Tried by hand" as files and scans, and the like for later
-//! requests, for the front of a corpus.
+//! requests, for the front of a corpus or of one of its parts.
 
 use crate::damage::P;
 use crate::records::{Case, Kept, List, Words};
@@ -113,6 +113,93 @@ pub fn missing_first() -> Vec<Case> {
         scans: Vec::new(),
     };
     files.map(case).to_vec()
+}
+
+/// Read point b is the past of B; outputs A and B; B rests on; "b and A".
+#[rustfmt::skip]
+pub const BRAKE: [u8; 34] = [
+    0x01, 0, 2, 1, 2,
+    0x02, 0, 3, 1, 1, b'b',
+    0x03, 0, 1, b'A',
+    0x03, 0, 1, b'B',
+    0x06, 0, 2, 0, 2,
+    0x04, 0, 4, 0x00, 0, 0x40, 0,
+    0x05, 0, 0,
+];
+
+/// That file with another rest word, or none where it is 0.
+pub fn brake(rest: u16) -> Vec<u8> {
+    let field: Vec<u8> = match rest {
+        0 => Vec::new(),
+        _ => [&[6, 0, 2], rest.to_be_bytes().as_slice()].concat(),
+    };
+    [&BRAKE[..19], &field, &BRAKE[24..]].concat()
+}
+
+/// No read points, outputs A and B, both at rest on, and "A and B".
+pub fn both_rest() -> Vec<u8> {
+    let mut bytes = file(0, &[], 2, &[&[0x40, 0, 0x41, 0]]);
+    bytes.splice(13..13, [6, 0, 2, 0, 3]);
+    bytes
+}
+
+/// Document 02's "Drives that rest on": that file with each rest word and
+/// requests for A, refused scans first or between; a rest word that is not
+/// safe; and states made by hand, where no rest word is read.
+pub fn resting() -> Vec<Case> {
+    let lists: [&[Words]; 4] = [
+        &[(0, 1), (0, 1)],
+        &[(0, 4), (0, 1), (0, 1)],
+        &[
+            (0, 4),
+            (1, 1),
+            (2, 3),
+            (0, 1),
+            (0, 4),
+            (0, 3),
+            (1, 1),
+            (0, 1),
+        ],
+        &[(0, 4), (1, 1)],
+    ];
+    let mut cases = Vec::new();
+    for rest in 0..5 {
+        for scans in lists {
+            let (file, scans) = (brake(rest), scans.to_vec());
+            cases.push(Case::File { file, scans });
+        }
+    }
+    cases.push(Case::File {
+        file: both_rest(),
+        scans: vec![(0, 3), (0, 1), (0, 3)],
+    });
+    cases.extend(resting_states());
+    cases
+}
+
+/// Two requests for A from states of that file, with its rest word and without
+/// one: past output word and mark; and a state of no words.
+fn resting_states() -> Vec<Case> {
+    let mut cases = Vec::new();
+    for (past_output, mark) in [(0, 0), (0, 1), (1, 0), (2, 0), (2, 1), (4, 0)] {
+        let first = Kept {
+            past_sensor: 0,
+            past_output,
+            mark,
+        };
+        for rest in [0, 2] {
+            let scans = vec![(0, 1), (0, 1)];
+            cases.push(Case::State {
+                file: brake(rest),
+                list: Some(List { first, scans }),
+            });
+        }
+    }
+    cases.push(Case::State {
+        file: brake(2),
+        list: None,
+    });
+    cases
 }
 
 /// The cases in the order of the paper; for the last, files that are refused.

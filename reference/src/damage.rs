@@ -57,7 +57,8 @@ pub fn truncated(good: &[u8]) -> Vec<Vec<u8>> {
     (0..good.len()).map(|end| good[..end].to_vec()).collect()
 }
 
-fn each_byte_changed(good: &[u8]) -> Vec<Vec<u8>> {
+/// A file with each of its bytes changed in a few ways.
+pub fn each_byte_changed(good: &[u8]) -> Vec<Vec<u8>> {
     let mut files = Vec::new();
     for place in 0..good.len() {
         for change in [1, 2, 4, 16, 128, 255] {
@@ -70,7 +71,7 @@ fn each_byte_changed(good: &[u8]) -> Vec<Vec<u8>> {
 }
 
 /// A file of some fields.
-fn joined(fields: &[(u8, &[u8])]) -> Vec<u8> {
+pub fn joined(fields: &[(u8, &[u8])]) -> Vec<u8> {
     let mut file = Vec::new();
     for (tag, body) in fields {
         put_field(&mut file, *tag, body);
@@ -241,7 +242,7 @@ fn bad_ends() -> Vec<Vec<u8>> {
 }
 
 /// Splits a good file into its fields.
-fn fields(good: &[u8]) -> Vec<Vec<u8>> {
+pub fn fields(good: &[u8]) -> Vec<Vec<u8>> {
     let mut rest = good;
     let mut fields = Vec::new();
     while let [_, high, low, ..] = rest {

@@ -1,6 +1,6 @@
-//! Set files: loading with refusals 1 to 12, and writing.
+//! Set files: loading with refusals 1 to 12 and 54, and writing.
 
-use crate::set::{Constraint, Kind, Literal, Point, ReadPoint, Set};
+use crate::set::{ones, Constraint, Kind, Literal, Point, ReadPoint, Set};
 
 /// A refused load: the number and the offset of the field's first byte.
 #[derive(Clone, Copy, Debug, PartialEq, Eq)]
@@ -23,6 +23,7 @@ const READ: u8 = 2;
 const OUTPUT: u8 = 3;
 const CONSTRAINT: u8 = 4;
 const END: u8 = 5;
+const REST: u8 = 6;
 
 const MOST_CONSTRAINTS: usize = 64;
 
@@ -61,6 +62,7 @@ pub fn load(file: &[u8]) -> Result<Set, Refusal> {
     let mut set = Set {
         reads: Vec::new(),
         outputs: Vec::new(),
+        rest: Vec::new(),
         constraints: Vec::new(),
     };
     let mut at = field.end();
@@ -76,16 +78,19 @@ pub fn load(file: &[u8]) -> Result<Set, Refusal> {
         set.outputs.push(name);
         at = field.end();
     }
-    loop {
-        let field = field_at(file, at)?;
-        at = field.end();
-        if field.tag == END {
-            end(&field, file)?;
-            return Ok(set);
-        }
+    // Only here may a rest word come.
+    let mut field = field_at(file, at)?;
+    if field.tag == REST {
+        set.rest = rest(&field, n)?;
+        field = field_at(file, field.end())?;
+    }
+    while field.tag != END {
         let constraint = constraint(&field, &set)?;
         set.constraints.push(constraint);
+        field = field_at(file, field.end())?;
     }
+    end(&field, file)?;
+    Ok(set)
 }
 
 /// The field that begins at an offset, or refusal 1.
@@ -152,6 +157,16 @@ fn new_name(field: &Field, name: &[u8], set: &Set) -> Result<Vec<u8>, Refusal> {
     field.need(name.iter().all(|b| (0x21..=0x7E).contains(b)), 7)?;
     field.need(!set.has_name(name), 8)?;
     Ok(name.to_vec())
+}
+
+/// Field 0x06: the outputs that rest on, at least one of the n there are.
+fn rest(field: &Field, n: usize) -> Result<Vec<usize>, Refusal> {
+    let &[high, low] = field.body else {
+        return field.refuse(4);
+    };
+    let rest = ones(u16::from_be_bytes([high, low]));
+    field.need(!rest.is_empty() && rest.iter().all(|&k| k < n), 54)?;
+    Ok(rest)
 }
 
 /// Field 0x04: literals of 2 bytes.
@@ -224,6 +239,9 @@ pub fn write(set: &Set) -> Vec<u8> {
     }
     for name in &set.outputs {
         put_field(&mut file, OUTPUT, name);
+    }
+    if !set.rest.is_empty() {
+        put_field(&mut file, REST, &set.rest_word().to_be_bytes());
     }
     for constraint in &set.constraints {
         let body: Vec<u8> = constraint.literals.iter().flat_map(literal_bytes).collect();

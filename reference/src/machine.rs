@@ -44,10 +44,14 @@ impl ScanRefusal {
 }
 
 impl State {
-    /// A start's own state of a set, judged or not: both pasts 0, and no scan
-    /// was accepted.
+    /// A start's own state of a set, judged or not: the past output word is the
+    /// set's rest word, the past sensor word 0, and no scan was accepted.
     pub fn fresh(set: &Set) -> State {
-        State::by_hand(set, &Kept::default())
+        let kept = Kept {
+            past_output: set.rest_word(),
+            ..Kept::default()
+        };
+        State::by_hand(set, &kept)
     }
 
     /// The set with these past words, allowed or not, and this mark.
@@ -87,7 +91,9 @@ pub fn scan(state: &mut State, sensor: u32, request: u16) -> Result<Sent, ScanRe
 
 /// The read word and the request of a scan as bits, or refusal 30, 31 or 32.
 /// Until a scan is accepted there is none before it: a past sensor reads as its
-/// sensor does now, and the past sensor word is tested and not read.
+/// sensor does now, and the past sensor word is tested and not read. A past
+/// output reads the state's word always, which in a start's own state is the
+/// rest word.
 pub fn taken(
     state: &State,
     sensor: u32,

@@ -59,11 +59,12 @@ pub fn set(chance: &mut Chance, recipe: Recipe, r: usize, n: usize, m: usize) ->
     set
 }
 
-/// Points with kinds and names, and no constraints.
+/// Points with kinds and names, no rest word and no constraints.
 pub fn points(chance: &mut Chance, r: usize, n: usize) -> Set {
     let mut set = Set {
         reads: Vec::new(),
         outputs: Vec::new(),
+        rest: Vec::new(),
         constraints: Vec::new(),
     };
     let past_share = chance.between(2, 6);

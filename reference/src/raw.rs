@@ -5,7 +5,7 @@
 
 use crate::file::{load, write};
 use crate::records::SET_BYTES;
-use crate::set::{Constraint, Kind, Literal, Point, ReadPoint, Set};
+use crate::set::{ones, Constraint, Kind, Literal, Point, ReadPoint, Set};
 
 /// How many places there are, and the bytes of each.
 pub const READS: usize = 16;
@@ -13,9 +13,12 @@ pub const OUTPUTS: usize = 12;
 pub const CONSTRAINTS: usize = 64;
 pub const NAME: usize = 8;
 
-/// Where read point k, output k and constraint k begin.
+/// Where the rest word lies, and where read point k, output k and constraint k
+/// begin.
+pub const REST: usize = 6;
+
 pub fn read_at(number: usize) -> usize {
-    6 + 10 * number
+    REST + 2 + 10 * number
 }
 
 pub fn output_at(number: usize) -> usize {
@@ -92,6 +95,7 @@ fn described(raw: &[u8]) -> Option<Set> {
     Some(Set {
         reads: (0..r).map(|k| read_point(&raw[read_at(k)..])).collect(),
         outputs: (0..n).map(|k| name(&raw[output_at(k)..])).collect(),
+        rest: ones(number(&raw[REST..REST + 2]) as u16),
         constraints: (0..m)
             .map(|k| constraint(&raw[constraint_at(k)..], r, n))
             .collect(),
@@ -172,6 +176,7 @@ pub fn laid_out(set: &Set) -> Vec<u8> {
     for (place, count) in counts.into_iter().enumerate() {
         raw[2 * place + 1] = count as u8;
     }
+    put(&mut raw, REST, &set.rest_word().to_be_bytes());
     for (k, point) in set.reads.iter().enumerate() {
         let (kind, index) = match point.kind {
             Kind::Sensor => (0, 0),
@@ -237,22 +242,23 @@ mod tests {
 
     #[test]
     fn places() {
-        assert_eq!(read_at(0), 6);
-        assert_eq!(output_at(0), 166);
-        assert_eq!(constraint_at(0), 262);
+        assert_eq!(read_at(0), 8);
+        assert_eq!(output_at(0), 168);
+        assert_eq!(constraint_at(0), 264);
         assert_eq!(constraint_at(CONSTRAINTS), SET_BYTES);
     }
 
     #[test]
     fn p_in_memory() {
         let raw = p();
-        assert_eq!(raw[..16], *b"\0\x01\0\x02\0\x02\0\x00007\0\0\0\0\0");
-        assert_eq!(raw[166..182], *b"07\0\0\0\0\0\x007\0\0\0\0\0\0\0");
+        assert_eq!(raw[..8], *b"\0\x01\0\x02\0\x02\0\0");
+        assert_eq!(raw[8..18], *b"\0\x00007\0\0\0\0\0");
+        assert_eq!(raw[168..184], *b"07\0\0\0\0\0\x007\0\0\0\0\0\0\0");
         let first = [0, 0, 0, 1, 0, 0, 0, 0, 0, 2, 0, 0];
-        assert_eq!(raw[262..274], first);
+        assert_eq!(raw[264..276], first);
         let second = [0, 0, 0, 0, 0, 0, 0, 0, 0, 1, 0, 2, 0, 1];
-        assert_eq!(raw[286..300], second);
-        assert!(raw[300..].iter().all(|&byte| byte == 0));
+        assert_eq!(raw[288..302], second);
+        assert!(raw[302..].iter().all(|&byte| byte == 0));
         assert_eq!(well_formed(&raw), load(&P).ok());
     }
 
@@ -278,6 +284,36 @@ mod tests {
         assert_eq!(well_formed(&[0; SET_BYTES]), None);
         assert_eq!(well_formed(&[255; SET_BYTES]), None);
         assert_eq!(well_formed(&[]), None);
+    }
+
+    #[test]
+    fn rest_words() {
+        let rests = |bytes: &[u8]| well_formed(&with(REST, bytes)).map(|set| set.rest);
+        assert_eq!(rests(&[0, 0]), Some(vec![]));
+        assert_eq!(rests(&[0, 1]), Some(vec![0]));
+        assert_eq!(rests(&[0, 2]), Some(vec![1]));
+        assert_eq!(rests(&[0, 3]), Some(vec![0, 1]));
+        // Bits beyond the outputs, alone and beside good ones.
+        for place in 2..16 {
+            let bit: u16 = 1 << place;
+            assert_eq!(rests(&bit.to_be_bytes()), None);
+            assert_eq!(rests(&(bit + 1).to_be_bytes()), None);
+        }
+        assert_eq!(form(&with(REST, &[0, 4])), Form::Refused(54));
+    }
+
+    #[test]
+    fn rest_words_of_twelve_outputs() {
+        let mut set = set(&mut Chance::new(2), Recipe::Planted, 2, 12, 3);
+        set.rest = vec![3, 8];
+        let mut raw = laid_out(&set);
+        assert_eq!(raw[REST..REST + 2], [1, 8]);
+        assert_eq!(well_formed(&raw), Some(set.clone()));
+        put(&mut raw, REST, &[0x0F, 0xFF]);
+        set.rest = (0..12).collect();
+        assert_eq!(well_formed(&raw), Some(set));
+        put(&mut raw, REST, &[0x10, 0]);
+        assert_eq!(form(&raw), Form::Refused(54));
     }
 
     #[test]

@@ -1,4 +1,5 @@
-//! What a set is: points with names, and constraints made of literals.
+//! What a set is: points with names, the outputs that rest on, and constraints
+//! made of literals.
 
 /// What a read point reads.
 #[derive(Clone, Copy, Debug, PartialEq, Eq)]
@@ -40,6 +41,9 @@ pub struct Constraint {
 pub struct Set {
     pub reads: Vec<ReadPoint>,
     pub outputs: Vec<Vec<u8>>,
+    /// The numbers of the outputs that count as on before the first scan,
+    /// rising.
+    pub rest: Vec<usize>,
     pub constraints: Vec<Constraint>,
 }
 
@@ -61,11 +65,22 @@ impl Set {
     pub fn has_name(&self, name: &[u8]) -> bool {
         self.reads.iter().any(|p| p.name == name) || self.outputs.iter().any(|o| o == name)
     }
+
+    /// The rest word: the outputs that rest on, as an output word.
+    pub fn rest_word(&self) -> u16 {
+        self.rest.iter().map(|&number| 1 << number).sum()
+    }
 }
 
 /// The low `count` bits of a word, bit 0 first.
 pub fn bits(word: u32, count: usize) -> Vec<bool> {
     (0..count).map(|k| (word >> k) % 2 == 1).collect()
+}
+
+/// The numbers of the bits that are 1, rising.
+pub fn ones(word: u16) -> Vec<usize> {
+    let bits = bits(u32::from(word), 16);
+    (0..16).filter(|&number| bits[number]).collect()
 }
 
 /// The word whose bits these are.

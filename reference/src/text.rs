@@ -1,4 +1,5 @@
-//! The canonical text of a set: one line for each point and each constraint.
+//! The canonical text of a set: one line for each point, each output that rests
+//! on and each constraint.
 
 use crate::file::{put_into, Written};
 use crate::set::{Constraint, Kind, Literal, Point, Set};
@@ -11,6 +12,9 @@ pub fn text(set: &Set) -> String {
     }
     for point in &set.reads {
         lines.push(read_line(set, point.kind, &point.name));
+    }
+    for &number in &set.rest {
+        lines.push(format!("rest {}", name_of(set, Point::Output(number))));
     }
     for constraint in &set.constraints {
         lines.push(constraint_line(set, constraint));
@@ -164,8 +168,34 @@ mod tests {
         assert_eq!(text(&set), lines.join("\n"));
     }
 
+    #[test]
+    fn outputs_that_rest_on() {
+        let set = loaded(&[
+            (1, &[1, 3]),
+            (2, b"\x01\x02rest"),
+            (3, b"A"),
+            (3, b"7"),
+            (3, b"end"),
+            (6, &[0, 5]),
+            (4, &[0x80, 0, 0x41, 0]),
+            (5, &[]),
+        ]);
+        let lines = [
+            "output A",
+            "output 7",
+            "output end",
+            "past rest of end",
+            "rest A",
+            "rest end",
+            "never rest off and 7 on",
+            "end",
+            "",
+        ];
+        assert_eq!(text(&set), lines.join("\n"));
+    }
+
     /// Every point named negated in each of 64 constraints, with ranks of three
-    /// digits, and all read points pasts.
+    /// digits, all read points pasts, and all outputs at rest on.
     fn wordiest(r: usize, n: usize) -> Set {
         let read = |number| ReadPoint {
             kind: Kind::PastOutput(0),
@@ -186,6 +216,7 @@ mod tests {
             outputs: (0..n)
                 .map(|k| format!("output{k:02}").into_bytes())
                 .collect(),
+            rest: (0..n).collect(),
             constraints: vec![constraint; 64],
         }
     }
@@ -197,11 +228,12 @@ mod tests {
             assert_eq!(load(&write(&set)), Ok(set.clone()));
             text(&set).len()
         };
-        // 12 lines of 16 bytes, 12 of 26, 64 of 518, and 4 for the end.
-        assert_eq!(length(12, 12), 33_660);
-        assert_eq!(length(16, 8), 31_396);
+        // 12 lines of 16 bytes, 12 of 26, 12 of 14, 64 of 518, and 4 for the
+        // end.
+        assert_eq!(length(12, 12), 33_828);
+        assert_eq!(length(16, 8), 31_396 + 8 * 14);
         for n in 1..=12 {
-            assert!(length((24 - n).min(16), n) <= 33_660);
+            assert!(length((24 - n).min(16), n) <= 33_828);
         }
     }
 

@@ -38,6 +38,7 @@ fn set(kinds: &[Kind], n: usize, constraints: &[&[Literal]]) -> Set {
     Set {
         reads: kinds.iter().enumerate().map(point).collect(),
         outputs: (0..n).map(|k| format!("o{k}").into_bytes()).collect(),
+        rest: Vec::new(),
         constraints: constraints
             .iter()
             .map(|literals| Constraint {

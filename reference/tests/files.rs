@@ -1,5 +1,5 @@
-//! Loading, with each refusal and the orders that docs/DECISIONS.md decides,
-//! and writing and finding.
+//! Loading, with each refusal but 54 and the orders that docs/DECISIONS.md
+//! decides, and writing and finding. `rests.rs` has 54.
 
 use reference::chance::Chance;
 use reference::damage::P;
@@ -248,13 +248,14 @@ fn longest_file() {
     for number in 0..8 {
         put_field(&mut file, 3, format!("output.{number}").as_bytes());
     }
+    put_field(&mut file, 6, &[0, 0x81]);
     let mut body: Vec<u8> = (0..16).flat_map(|k| [k, 0]).collect();
     body.extend((0..8).flat_map(|k| [0x40 + k, k]));
     for _ in 0..64 {
         put_field(&mut file, 4, &body);
     }
     put_field(&mut file, 5, &[]);
-    assert_eq!(file.len(), 3568);
+    assert_eq!(file.len(), 3573);
     assert_eq!(load(&file).map(|set| write(&set)), Ok(file));
 }
 

@@ -80,6 +80,7 @@ fn at_word(set: &Set, word: u32) -> Set {
     Set {
         reads: Vec::new(),
         outputs: set.outputs.clone(),
+        rest: Vec::new(),
         constraints: active.map(without_reads).collect(),
     }
 }

@@ -170,6 +170,7 @@ fn long_walks_reach_the_bound() {
     let set = Set {
         reads: Vec::new(),
         outputs: vec![b"A".to_vec(), b"B".to_vec()],
+        rest: Vec::new(),
         constraints: vec![
             constraint(literal(0, false, 0), literal(1, false, 0)),
             constraint(literal(0, true, 0), literal(1, true, 1)),

@@ -213,6 +213,13 @@ fn stray_constraint() -> Set {
     s
 }
 
+// P with this rest word.
+fn p_resting(rest: u16) -> Set {
+    let mut s = set_p();
+    s.rest = rest;
+    s
+}
+
 // P with an output both plain and negated.
 fn both_ways() -> Set {
     let mut s = set_p();
@@ -230,6 +237,9 @@ fn print_formed() {
     print_test(shape::well_formed(stray_rank()));
     print_test(shape::well_formed(stray_constraint()));
     print_test(shape::well_formed(both_ways()));
+    print_test(shape::well_formed(p_resting(3)));
+    print_test(shape::well_formed(p_resting(4)));
+    print_test(shape::well_formed(p_resting(0x8001)));
     io::write_all(1, b"\n");
 }
 
@@ -408,6 +418,29 @@ fn print_edges() {
     io::write_all(1, b"\n");
 }
 
+// The file of P with a rest word, which has five bytes more; what a start gives of it: the verdict, the past output word and the rest word of the state.
+fn print_resting(rest: u16) {
+    let set = p_resting(rest);
+    let mut buf = [FILL; 64];
+    print_write(set, &mut buf, 44);
+    let mut scratch = [FILL; 4];
+    let started = start::start(set, &mut scratch);
+    let w = started.verdict;
+    print_verdict(b' ', w);
+    print_behind(b' ', started.state.past_output as usize);
+    print_behind(b' ', started.state.set.rest as usize);
+    io::write_all(1, b",");
+}
+
+fn print_rests() {
+    io::write_all(1, b"rest:");
+    print_resting(0);
+    print_resting(2);
+    print_resting(3);
+    print_resting(4);
+    io::write_all(1, b"\n");
+}
+
 pub fn print_all() {
     print_formed();
     print_writes();
@@ -415,4 +448,5 @@ pub fn print_all() {
     print_finds();
     print_scans();
     print_edges();
+    print_rests();
 }

@@ -1,4 +1,4 @@
-// Sets made by hand, from bytes: any counts, kinds, names, masks and ranks.
+// Sets made by hand, from bytes: any counts, rest words, kinds, names, masks and ranks.
 use super::answers::print_verdict;
 use super::answers::print_written;
 use super::names::print_names;
@@ -22,17 +22,17 @@ use scan::Set;
 use writer::Written;
 
 // The bytes of a set, of a read point and of a constraint, and where the read points, the outputs and the constraints begin.
-pub const SET_BYTES: usize = 1798;
+pub const SET_BYTES: usize = 1800;
 
 const READ_BYTES: usize = 10;
 
 const CONSTRAINT_BYTES: usize = 24;
 
-const READS_AT: usize = 6;
+const READS_AT: usize = 8;
 
-const OUTPUTS_AT: usize = 166;
+const OUTPUTS_AT: usize = 168;
 
-const CONSTRAINTS_AT: usize = 262;
+const CONSTRAINTS_AT: usize = 264;
 
 fn name_of(bytes: &[u8]) -> [u8; NAME_PLACES] {
     [
@@ -139,6 +139,7 @@ fn set_of(bytes: &[u8]) -> Set {
     let r = two_of(bytes) as usize;
     let n = two_of(behind(bytes, 2)) as usize;
     let m = two_of(behind(bytes, 4)) as usize;
+    let rest = two_of(behind(bytes, 6));
     let reads = reads_of(behind(bytes, READS_AT));
     let outputs = outputs_of(behind(bytes, OUTPUTS_AT));
     let constraints = constraints_of(behind(bytes, CONSTRAINTS_AT));
@@ -146,6 +147,7 @@ fn set_of(bytes: &[u8]) -> Set {
         r,
         n,
         m,
+        rest,
         reads,
         outputs,
         constraints,

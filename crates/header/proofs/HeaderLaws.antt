@@ -29,7 +29,8 @@ step-positive (suc (suc zero)) h = lit< tt
 step-positive (suc (suc (suc zero))) h = lit< tt
 step-positive (suc (suc (suc (suc zero)))) h = lit< tt
 step-positive (suc (suc (suc (suc (suc zero))))) h = lit< tt
-step-positive (suc (suc (suc (suc (suc (suc tag)))))) h = absurd (omega arith)
+step-positive (suc (suc (suc (suc (suc (suc zero)))))) h = lit< tt
+step-positive (suc (suc (suc (suc (suc (suc (suc tag))))))) h = absurd (omega arith)
 
 -- what a length in the table is
 pub table-bounds : (tag len : ℕ) → fitsTable tag len ≡ true → (shortest tag ≤ len) × (len ≤ longest tag) × (len % step tag ≡ 0)
@@ -176,6 +177,9 @@ read-length s tag len e = body-bounds s 2 0 tag len (eqb-false 2 4 refl) e
 
 pub output-length : (s : List ℕ) (tag len : ℕ) → headerOf s 3 0 ≡ Field tag len → (1 ≤ len) × (len ≤ namePlaces)
 output-length s tag len e = body-bounds s 3 0 tag len (eqb-false 3 4 refl) e
+
+pub rest-length : (s : List ℕ) (tag len : ℕ) → headerOf s 6 0 ≡ Field tag len → len ≡ 2
+rest-length s tag len e = let b = body-bounds s 6 0 tag len (eqb-false 6 4 refl) e in omega arith
 
 -- where a constraint or the end is due, and the end was not found
 pub constraint-length : (s : List ℕ) (m tag len : ℕ) → (tag ≡ 5 → ⊥) → headerOf s 4 m ≡ Field tag len → (len ≤ 48) × (len % 2 ≡ 0) × (m < mostConstraints)

@@ -35,19 +35,19 @@ bodyOf s len = take len (drop 3 s)
 
 -- tags are below this
 abbrev pub tagBound : ℕ
-tagBound = 6
+tagBound = 7
 
 -- the shortest body
 abbrev pub shortest : ℕ → ℕ
-shortest tag = getD (0 ∷ 2 ∷ 3 ∷ 1 ∷ 2 ∷ 0 ∷ []) tag 0
+shortest tag = getD (0 ∷ 2 ∷ 3 ∷ 1 ∷ 2 ∷ 0 ∷ 2 ∷ []) tag 0
 
 -- the longest body
 abbrev pub longest : ℕ → ℕ
-longest tag = getD (0 ∷ 2 ∷ 10 ∷ 8 ∷ 48 ∷ 0 ∷ []) tag 0
+longest tag = getD (0 ∷ 2 ∷ 10 ∷ 8 ∷ 48 ∷ 0 ∷ 2 ∷ []) tag 0
 
 -- what a body's length is a multiple of
 abbrev pub step : ℕ → ℕ
-step tag = getD (1 ∷ 1 ∷ 1 ∷ 1 ∷ 2 ∷ 1 ∷ []) tag 0
+step tag = getD (1 ∷ 1 ∷ 1 ∷ 1 ∷ 2 ∷ 1 ∷ 1 ∷ []) tag 0
 
 -- the length is in the table
 abbrev pub fitsTable : ℕ → ℕ → Bool

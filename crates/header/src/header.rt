@@ -11,14 +11,14 @@ ghost use lib.ListN.{drop};
 ghost use Rattle.header.specs.Header.{rawOf, fitsTable, isDue, headerOf};
 
 // Tags are below this.
-const TAG_BOUND: usize = 6;
+const TAG_BOUND: usize = 7;
 
 // By tag: the shortest body, the longest body, and what a body's length is a multiple of.
-const SHORTEST: [u8; TAG_BOUND] = [0, 2, 3, 1, 2, 0];
+const SHORTEST: [u8; TAG_BOUND] = [0, 2, 3, 1, 2, 0, 2];
 
-const LONGEST: [u8; TAG_BOUND] = [0, 2, 10, 8, 48, 0];
+const LONGEST: [u8; TAG_BOUND] = [0, 2, 10, 8, 48, 0, 2];
 
-const STEP: [u8; TAG_BOUND] = [1, 1, 1, 1, 2, 1];
+const STEP: [u8; TAG_BOUND] = [1, 1, 1, 1, 2, 1, 1];
 
 // A field whatever its tag: header or body runs past the end; or the tag and the length of the body.
 pub enum RawField {

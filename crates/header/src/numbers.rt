@@ -1,4 +1,4 @@
-// Numbers of refusals, as document 01 has them, and the tags of fields.
+// Numbers of refusals, as document 01 and the change requests have them, and the tags of fields.
 
 // A refusal's number, or that what was read is good.
 pub enum Taken {
@@ -30,6 +30,8 @@ pub const NO_OUTPUT: u8 = 11;
 
 pub const BYTES_FOLLOW: u8 = 12;
 
+pub const BAD_REST: u8 = 54;
+
 pub const TAG_COUNTS: u8 = 0x01;
 
 pub const TAG_READ: u8 = 0x02;
@@ -39,3 +41,5 @@ pub const TAG_OUTPUT: u8 = 0x03;
 pub const TAG_CONSTRAINT: u8 = 0x04;
 
 pub const TAG_END: u8 = 0x05;
+
+pub const TAG_REST: u8 = 0x06;

@@ -39,6 +39,12 @@ body-at s at len =
 pub body-long : (s : List ℕ) (at len : ℕ) → at + 3 + len ≤ length s → length (take (at + 3 + len - (at + 3)) (drop (at + 3) s)) ≡ len
 body-long s at len h = simp (length-take, length-drop) (omega arith)
 
+-- byte k of a field's body
+pub body-byte : (s : List ℕ) (at len k : ℕ) → k < len → getD (bodyOf (drop at s) len) k 0 ≡ getD s (at + 3 + k) 0
+body-byte s at len k h =
+    let there : at + (3 + k) ≡ at + 3 + k = omega arith in
+    getD-take len (drop 3 (drop at s)) k 0 h ∙ getD-drop 3 (drop at s) k 0 ∙ getD-drop at s (3 + k) 0 ∙ ap (λ (x : ℕ). getD s x 0) there
+
 -- ---- the counts, by the header and what they are
 
 module _ (s : List ℕ) where
@@ -48,10 +54,10 @@ module _ (s : List ℕ) where
 
   module _ (tag : ℕ) (h : headerOf s 1 0 ≡ Field tag 2) where
     first-count : getD (bodyOf s 2) 0 0 ≡ getD s 3 0
-    first-count = getD-take 2 (drop 3 s) 0 0 (lit< tt) ∙ getD-drop 3 s 0 0
+    first-count = body-byte s 0 2 0 (lit< tt)
 
     second-count : getD (bodyOf s 2) 1 0 ≡ getD s 4 0
-    second-count = getD-take 2 (drop 3 s) 1 0 (lit< tt) ∙ getD-drop 3 s 1 0
+    second-count = body-byte s 0 2 1 (lit< tt)
 
     pub counts-bad : every (countTests (getD s 3 0) (getD s 4 0) 0) ≡ false → countsAt s ≡ refusal 5 0
     unfolding countsAt

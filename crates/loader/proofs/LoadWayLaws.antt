@@ -1,12 +1,12 @@
 -- The code's way of loading is that of the definitions: steps over fields, lists of pasts and of names, and how far a load has come.
 -- Assumes nothing.
 use mathlib.Core.Path.{_≡_, refl, sym, _∙_, ap, ap₂, fun-ext}
-use mathlib.Core.Bool.{Bool, true, false, not}
+use mathlib.Core.Bool.{Bool, true, false, cond, not}
 use mathlib.Core.List.{List, [], _∷_, map}
 use Prim.Native.Nat.{ℕ, zero, suc, _+_, _-_, _≤_, _<_, min}
 use native.Mathlib.Nat.{min-eq-left}
 use native.Mathlib.Omega.{arith}
-use lib.Dec.{lit≤}
+use lib.Dec.{eqb, lit≤}
 use lib.ListN.{length, take, drop, getD, set, replicate, length-set, List·getD-map}
 use Rattle.words.specs.Loop.{first, firstFrom}
 use Rattle.scan.specs.declared.set.ReadPoint.{ReadPoint}
@@ -25,9 +25,11 @@ use Rattle.header.specs.declared.numbers.Taken.{Taken}
 use Rattle.header.specs.declared.numbers.Taken.the-variants.{Refused as Denied, Good}
 use Rattle.loader.specs.declared.step.ReadStep.{ReadStep}
 use Rattle.loader.specs.declared.step.NameStep.{NameStep}
+use Rattle.loader.specs.declared.rest.RestStep.{RestStep}
 use Rattle.loader.specs.declared.loader.Progress.{Progress}
-use Rattle.loader.specs.Load.{fieldDone, fieldBy, nameField, readField, sensorAt, readOf, withRead, readAt, outputOf, withOutput, outputAt}
-use Rattle.loader.specs.way.Load.{notPast, Pasts, placeBehind, readStep, nameStep, reached}
+use Rattle.loader.specs.declared.loader.Progress.the-variants.{At}
+use Rattle.loader.specs.Load.{Loading, fieldDone, fieldBy, nameField, readField, sensorAt, readOf, withRead, readAt, outputOf, withOutput, outputAt, restWord, restGood, restAt, goingOn}
+use Rattle.loader.specs.way.Load.{notPast, Pasts, placeBehind, readStep, nameStep, restStep, restPlace, reached, pointsSet, restedSet}
 use Rattle.loader.proofs.LoadLaws.{body-at}
 
 -- ---- steps
@@ -141,3 +143,21 @@ module _ (s : List ℕ) (at : ℕ) (base : Set) where
           ≡ fieldBy s at (λ body. outputOf base j body .taken) (λ body. withOutput base j (outputOf base j body .name)) h
       go (Stopped number) = refl
       go (Field tag len) = by-body at len (outputOf base j (bodyOf (drop at s) len) .taken) (withOutput base j (outputOf base j (bodyOf (drop at s) len) .name))
+
+-- the rest word's field, or none, brings a load as far as its step does
+pub rest-stepped : (s : List ℕ) (at r n : ℕ) (reads : List ReadPoint) (outputs : List OutputPoint) (f : RestStep) → f ≡ restPlace s at n
+    → reached (f .progress) (restedSet r n (f .rest) reads outputs) ≡ restAt s at (pointsSet r n reads outputs)
+unfolding restPlace restAt zeroSet
+rest-stepped s at r n reads outputs f e = ap come e ∙ go (eqb (getD (drop at s) 0 0) 6)
+  where
+    come : RestStep → Loading
+    come g = reached (g .progress) (restedSet r n (g .rest) reads outputs)
+
+    given : (h : Header) → come (restStep s at n h) ≡ fieldBy s at (λ body. restGood (restWord body) n) (λ body. restedSet r n (restWord body) reads outputs) h
+    given (Stopped number) = refl
+    given (Field tag len) = by-body at len (restGood (restWord (bodyOf (drop at s) len)) n) (restedSet r n (restWord (bodyOf (drop at s) len)) reads outputs)
+
+    go : (b : Bool) → come (cond b (restStep s at n (headerOf (drop at s) 6 0)) (record { progress = At at; rest = 0 }))
+        ≡ cond b (fieldBy s at (λ body. restGood (restWord body) n) (λ body. restedSet r n (restWord body) reads outputs) (headerOf (drop at s) 6 0)) (goingOn at (pointsSet r n reads outputs))
+    go true = given (headerOf (drop at s) 6 0)
+    go false = refl

@@ -13,7 +13,7 @@ use Rattle.words.specs.Loop.{every}
 use Rattle.words.proofs.BoolLaws.{every-at}
 use Rattle.scan.specs.declared.set.Constraint.{Constraint}
 use Rattle.scan.specs.declared.set.Set.{Set}
-use Rattle.scan.specs.Set.{mostConstraints, zeroSet}
+use Rattle.scan.specs.Set.{mostConstraints, zeroSet, withRest}
 use Rattle.scan.specs.Shape.{countTests}
 use Rattle.header.specs.declared.header.Header.{Header}
 use Rattle.header.specs.declared.header.Header.the-variants.{Refused as Stopped, Field}
@@ -25,7 +25,7 @@ use Rattle.loader.specs.declared.loader.LoadAnswer.the-variants.{Loaded,
 use Rattle.header.specs.Header.{headerOf, bodyOf}
 use Rattle.literal.specs.Literal.{literalsOf}
 use Rattle.loader.specs.Load.{Loading, refusal, goingOn, thenFrom, andThen, fieldDone, fieldBy, goodIf, countsTold, countsMade, countsAt, readOf, withRead, readAt, readsFrom}
-use Rattle.loader.specs.Load.{outputOf, withOutput, outputAt, outputsFrom, withConstraint, constraintAt, endAt, constraintsGiven, constraintsFrom, afterCounts, afterReads, answerOf, loadFrom, loadOf}
+use Rattle.loader.specs.Load.{outputOf, withOutput, outputAt, outputsFrom, restWord, restGood, restAt, afterRest, afterOutputs, withConstraint, constraintAt, endAt, constraintsGiven, constraintsFrom, afterCounts, afterReads, answerOf, loadFrom, loadOf}
 
 -- a refusal has the zero set, and a set on its way has an output
 abbrev Shown : Progress → Set → Type 0
@@ -89,6 +89,18 @@ outputs-show file =
     points-show (outputsFrom file) (outputAt file) (λ j at s. refl) (λ left j at s. refl)
     (λ j at s e. field-shows file at (λ b. outputOf s j b .taken) (λ b. withOutput s j (outputOf s j b .name)) (λ b g. e) (headerOf (drop at file) 3 0))
 
+rest-shows : (file : List ℕ) (at : ℕ) (s : Set) → 1 ≤ s .n → Shows (restAt file at s)
+unfolding restAt
+rest-shows file at s e =
+    cond-shows (eqb (getD (drop at file) 0 0) 6) (fieldBy file at told made (headerOf (drop at file) 6 0)) (goingOn at s)
+    (λ t. field-shows file at told made (λ b g. e) (headerOf (drop at file) 6 0)) e
+  where
+    told : List ℕ → Taken
+    told body = restGood (restWord body) (s .n)
+
+    made : List ℕ → Set
+    made body = withRest s (restWord body)
+
 constraint-shows : (s : List ℕ) (at len : ℕ) (set : Set) → 1 ≤ set .n → Shows (constraintAt s at len set)
 unfolding constraintAt
 constraint-shows s at len set e = go (literalsOf (set .r) (set .n) (bodyOf (drop at s) len) .taken)
@@ -121,8 +133,9 @@ unfolding loadFrom countsAt
 load-shows file =
     then-shows (countsAt file) (afterCounts file) (counts-show file (headerOf file 1 0))
     (λ a s e. then-shows (readsFrom file (s .r) 0 a s) (afterReads file) (reads-show file (s .r) 0 a s e)
-    (λ b t f. then-shows (outputsFrom file (t .n) 0 b t) (constraintsFrom file (suc mostConstraints)) (outputs-show file (t .n) 0 b t f)
-    (λ d u g. constraints-show file (suc mostConstraints) d u g)))
+    (λ b t f. then-shows (outputsFrom file (t .n) 0 b t) (afterOutputs file) (outputs-show file (t .n) 0 b t f)
+    (λ d u g. then-shows (restAt file d u) (afterRest file) (rest-shows file d u g)
+    (λ k v h. constraints-show file (suc mostConstraints) k v h))))
 
 -- A refused load carries the zero set.
 pub refused-zero : (file : List ℕ) (c o : ℕ) → loadOf file .answer ≡ WasRefused c o → loadOf file .set ≡ zeroSet

@@ -2,7 +2,7 @@
 -- what is left of the file s at the place `at`, which is the offset that a refusal gives. The tests of a field come in the order of their
 -- numbers: 1 to 4 in specs/Header, 9 to 11 in specs/Literal, the others here.
 -- Assumes nothing.
-use Prim.Native.Nat.{ℕ, zero, suc, _+_}
+use Prim.Native.Nat.{ℕ, zero, suc, _+_, _*_, _^_}
 use mathlib.Core.Bool.{Bool, true, false, cond, _&&_}
 use mathlib.Core.List.{List}
 use lib.Dec.{ltb, eqb}
@@ -14,7 +14,7 @@ use Rattle.scan.specs.declared.set.ReadPoint.{ReadPoint}
 use Rattle.scan.specs.declared.set.Constraint.{Constraint}
 use Rattle.scan.specs.declared.set.Set.{Set}
 use Rattle.shape.specs.declared.names.Spelled.{Spelled}
-use Rattle.scan.specs.Set.{mostConstraints, zeroName, zeroRead, zeroSet, withCounts, withReads, withOutputs, withConstraints, readPoint}
+use Rattle.scan.specs.Set.{mostConstraints, zeroName, zeroRead, zeroSet, withCounts, withReads, withOutputs, withConstraints, withRest, readPoint}
 use Rattle.shape.specs.Spelling.{spelling}
 use Rattle.scan.specs.Names.{isUsed}
 use Rattle.scan.specs.Shape.{countTests, isSensor}
@@ -176,6 +176,22 @@ unfoldable pub outputsFrom : List ℕ → ℕ → ℕ → ℕ → Set → Loadin
 outputsFrom s zero j at set = goingOn at set
 outputsFrom s (suc left) j at set = andThen (outputAt s at set j) (outputsFrom s left (j + 1))
 
+-- ---- 0x06: the rest word, if there is one
+
+-- the two bytes of a body, the high one first
+abbrev pub restWord : List ℕ → ℕ
+restWord body = getD body 0 0 * 256 + getD body 1 0
+
+-- 54, or the rest word of a set of n outputs is good: it is not 0, and has bits at outputs only
+abbrev pub restGood : ℕ → ℕ → Taken
+restGood rest n = goodIf (ltb 0 rest && ltb rest (2 ^ n)) 54
+
+-- the rest word, if its field stands here; a field of another tag is left to the constraints and the end, which test it
+unfoldable pub restAt : List ℕ → ℕ → Set → Loading
+restAt s at set =
+    let given = fieldAt s at 6 (λ body. restGood (restWord body) (set .n)) (λ body. withRest set (restWord body)) in
+    cond (eqb (getD (drop at s) 0 0) 6) given (goingOn at set)
+
 -- ---- 0x04: literals
 
 -- the set with a constraint more
@@ -211,9 +227,13 @@ constraintsFrom s (suc left) at set = constraintsGiven s at set (constraintsFrom
 
 -- ---- the whole
 
+-- what follows the rest word
+abbrev pub afterRest : List ℕ → ℕ → Set → Loading
+afterRest s at set = constraintsFrom s (suc mostConstraints) at set
+
 -- what follows the outputs
 abbrev pub afterOutputs : List ℕ → ℕ → Set → Loading
-afterOutputs s at set = constraintsFrom s (suc mostConstraints) at set
+afterOutputs s at set = andThen (restAt s at set) (afterRest s)
 
 -- what follows the read points
 abbrev pub afterReads : List ℕ → ℕ → Set → Loading

@@ -1,4 +1,5 @@
-// Loading: the counts, then read points, outputs, constraints and the end, each field from the front of what is left.
+// Loading: the counts, then read points, outputs, the rest word, constraints and the end, each field from the front of what is left.
+use super::rest::rest_at;
 use super::step::output_at;
 use super::step::read_at;
 use header::BAD_COUNTS;
@@ -24,7 +25,7 @@ use shape::are_counts_ok;
 use shape::is_sensor;
 ghost use mathlib.Core.Path.{_≡_};
 ghost use mathlib.Core.List.{List};
-ghost use Prim.Native.Nat.{_+_, _≤_};
+ghost use Prim.Native.Nat.{ℕ, _+_, _≤_};
 ghost use lib.ListN.{length, replicate};
 ghost use Rattle.loader.specs.declared.loader.Loaded.{Loaded};
 ghost use Rattle.loader.specs.declared.loader.LoadAnswer.the-variants.{Loaded as WasLoaded};
@@ -32,8 +33,8 @@ ghost use Rattle.scan.specs.declared.set.ReadPoint.{ReadPoint};
 ghost use Rattle.scan.specs.declared.set.OutputPoint.{OutputPoint};
 ghost use Rattle.scan.specs.Set.{mostReads, mostOutputs, mostConstraints, zeroName, zeroConstraint, withReads, withOutputs};
 ghost use Rattle.shape.specs.way.Names.{ReadNames};
-ghost use Rattle.loader.specs.Load.{refusal, ofCounts, countsAt, readsFrom, outputsFrom, afterOutputs, afterReads, afterCounts, answered, loadOf};
-ghost use Rattle.loader.specs.way.Load.{reached, endPlace, pointsSet, wholeSet};
+ghost use Rattle.loader.specs.Load.{refusal, ofCounts, countsAt, readsFrom, outputsFrom, afterRest, afterOutputs, afterReads, afterCounts, answered, loadOf};
+ghost use Rattle.loader.specs.way.Load.{reached, endPlace, pointsSet, restedSet, wholeSet};
 
 // A file was loaded; or the number of the refusal and the offset of the field's first byte.
 pub enum LoadAnswer {
@@ -225,7 +226,7 @@ fn ended(progress: Progress, m: usize, constraints: [Constraint; MOST_CONSTRAINT
 // Constraints from `at` up to the end, for a set of r read points and n outputs.
 fn constraints_at(s: &[u8], at: usize, r: usize, n: usize) -> Constraints
     requires { ⌜ n ≤ mostOutputs ⌝ }
-    ensures { λ l. ⌜ ((reads : List ReadPoint) (outputs : List OutputPoint) → reached (l .progress) (wholeSet r n (l .m) reads outputs (l .constraints)) ≡ afterOutputs (now (s .entry)) at (pointsSet r n reads outputs)) ⌝ }
+    ensures { λ l. ⌜ ((rest : ℕ) (reads : List ReadPoint) (outputs : List OutputPoint) → reached (l .progress) (wholeSet r n (l .m) rest reads outputs (l .constraints)) ≡ afterRest (now (s .entry)) at (restedSet r n rest reads outputs)) ⌝ }
 {
     let mut constraints = zero_constraints();
     let mut next = at;
@@ -278,17 +279,18 @@ fn file_taken(set: Set) -> Loaded
     Loaded { answer, set }
 }
 
-// What follows the outputs, and the set of them all.
-fn after_outputs(
+// What follows the rest word, and the set of them all.
+fn after_rest(
     s: &[u8],
     at: usize,
     r: usize,
     n: usize,
+    rest: u16,
     reads: [ReadPoint; MOST_READS],
     outputs: [OutputPoint; MOST_OUTPUTS],
 ) -> Loaded
     requires { ⌜ n ≤ mostOutputs ⌝ }
-    ensures { λ l. ⌜ l ≡ answered (afterOutputs (now (s .entry)) at (pointsSet r n reads outputs)) ⌝ }
+    ensures { λ l. ⌜ l ≡ answered (afterRest (now (s .entry)) at (restedSet r n rest reads outputs)) ⌝ }
 {
     let l = constraints_at(s, at, r, n);
     let p = l.progress;
@@ -301,12 +303,33 @@ fn after_outputs(
                 r,
                 n,
                 m,
+                rest,
                 reads,
                 outputs,
                 constraints,
             };
             file_taken(set)
         }
+    }
+}
+
+// What follows the outputs.
+fn after_outputs(
+    s: &[u8],
+    at: usize,
+    r: usize,
+    n: usize,
+    reads: [ReadPoint; MOST_READS],
+    outputs: [OutputPoint; MOST_OUTPUTS],
+) -> Loaded
+    requires { ⌜ n ≤ mostOutputs ⌝ }
+    ensures { λ l. ⌜ l ≡ answered (afterOutputs (now (s .entry)) at (pointsSet r n reads outputs)) ⌝ }
+{
+    let l = rest_at(s, at, n);
+    let p = l.progress;
+    match p {
+        Progress::Refused(number, offset) => refused(number, offset),
+        Progress::At(next) => after_rest(s, next, r, n, l.rest, reads, outputs),
     }
 }
 

@@ -33,7 +33,7 @@ pub struct NameStep {
 }
 
 // The place behind a body of `len` bytes, or its refusal.
-fn place_behind(at: usize, behind: usize, taken: Taken) -> Progress
+pub fn place_behind(at: usize, behind: usize, taken: Taken) -> Progress
     ensures { λ p. ⌜ p ≡ placeBehind at behind taken ⌝ }
 {
     match taken {

@@ -17,6 +17,7 @@ use Rattle.scan.specs.Walk.{Reaches, passesDue, vectorDue}
 use Rattle.machine.specs.Machine.{stateOk, sensorOk, requestOk, refused, scanOf}
 use Rattle.machine.specs.Told.{scanTold}
 use Rattle.machine.specs.History.{Call, allowed, anyAllowed, pastSensor, sensorRead, pastOutput, readAfter, stateAfter, run, runState, followed, Right, AllRight}
+use Rattle.scan.proofs.ShapeLaws.{rest-lt}
 use Rattle.scan.proofs.PassLaws.{after-lt}
 use Rattle.machine.proofs.PastLaws.{read-lt, sensor-lt}
 use Rattle.machine.proofs.MachineLaws.{state-passes, request-lt, sends-due, scan-bad-sensor, scan-bad-request, scan-sends}
@@ -40,7 +41,7 @@ module _ (s : Set) (ok : wellFormed s ≡ true) (ends : (w : ℕ) → w < 2 ^ s 
 
   past-output-lt : (before : List Call) → pastOutput s before < 2 ^ s .n
   unfolding pastOutput readAfter vectorDue
-  past-output-lt [] = pow-pos (s .n)
+  past-output-lt [] = rest-lt s ok
   past-output-lt (b ∷ before) =
       by-test (allowed s b)
       (λ e. rw e (after-lt s (readAfter s before b) ok (b .request) (request-lt s (b .request) (parts b e .1)) _))

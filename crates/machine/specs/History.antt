@@ -40,9 +40,10 @@ pastSensor s (b ∷ before) = cond (allowed s b) (b .sensor) (pastSensor s befor
 unfoldable pub sensorRead : Set → List Call → Call → ℕ
 sensorRead s before c = sensorBefore (anyAllowed s before) (pastSensor s before) (c .sensor)
 
--- the past output word that a call finds: the vector due in the last one before it that is allowed; a start's, 0, where there is none
+-- the past output word that a call finds: the vector due in the last one before it that is allowed; a start's, the rest word of the set, where there
+-- is none
 unfoldable pub pastOutput : Set → List Call → ℕ
-pastOutput s [] = 0
+pastOutput s [] = s .rest
 pastOutput s (b ∷ before) =
     let due = vectorDue s (readWord s (pastOutput s before) (sensorRead s before b) (b .sensor)) (b .request) in
     cond (allowed s b) due (pastOutput s before)

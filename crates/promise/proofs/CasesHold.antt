@@ -1,4 +1,4 @@
--- The worked cases hold, by computation: document 01's starred ones, those for what they leave open, and those of change request K5.
+-- The worked cases hold, by computation: document 01's starred ones, those for what they leave open, and those of change requests K5 and K6.
 -- Assumes nothing.
 use mathlib.Core.Path.{refl}
 use lib.Count.{onesIn}
@@ -21,10 +21,10 @@ use Rattle.verdict.specs.FirstFailing.{fails, rejectionBy, rejection, verdictAt
 use Rattle.start.specs.Start.{startOf}
 use Rattle.header.specs.Header.{rawOf, headerOf}
 use Rattle.literal.specs.Literal.{narrows, withLiteral, literalsFrom}
-use Rattle.loader.specs.Load.{countsAt, nameField, kindOf, readField, readOf, readAt, readsFrom, outputOf, outputAt, outputsFrom, constraintAt, constraintsFrom, loadFrom, loadOf}
+use Rattle.loader.specs.Load.{countsAt, nameField, kindOf, readField, readOf, readAt, readsFrom, outputOf, outputAt, outputsFrom, restAt, constraintAt, constraintsFrom, loadFrom, loadOf}
 use Rattle.decimal.specs.Decimal.{leading, decimal}
-use Rattle.text.specs.Text.{readLiteral, outputLiteral, neverLine, shownLines, spacedWords, linesText, textOf}
-use Rattle.promise.specs.Cases.{AllAnswered, starred, further, orderCases, scanCases, findCases, textCases}
+use Rattle.text.specs.Text.{restLine, readLiteral, outputLiteral, neverLine, shownLines, spacedWords, linesText, textOf}
+use Rattle.promise.specs.Cases.{AllAnswered, starred, further, orderCases, restCases, scanCases, findCases, textCases}
 
 pub starred-hold : AllAnswered starred
 unfolding onesIn odd bit without meets popcount gather bitIf word some all firstFrom first zeroSet constraint kind nameByte nameLength placeOk nameOk
@@ -40,7 +40,7 @@ unfolding onesIn odd bit without meets popcount gather bitIf word some all first
     constraintTests constraintZero constraintPlace setTests wellFormed readsTrue outsTrue isTrue simple combined trueAt safe holding toZero toOne F0
     F1 unheldBy unheld unheldCount startFrom startVector lowest hasRank yielding yields fires flips pass walkBy walk readingAt readWord stateOk isPast
     sensorOk requestOk scanOf run hasVector endless lacks hasEndless vectorAt endlessAt judgeWords scratchBytes judgeOf startOf
-    rawOf headerOf spelling nameField kindOf readField readOf readAt readsFrom outputOf outputAt outputsFrom narrows withLiteral literalsFrom constraintAt
+    rawOf headerOf spelling nameField kindOf readField readOf readAt readsFrom outputOf outputAt outputsFrom restAt narrows withLiteral literalsFrom constraintAt
     constraintsFrom countsAt loadFrom loadOf allNameBytes isUsed
 further-hold = refl
 
@@ -50,9 +50,19 @@ unfolding onesIn odd bit without meets popcount gather bitIf word some all first
     constraintTests constraintZero constraintPlace setTests wellFormed readsTrue outsTrue isTrue simple combined trueAt safe holding toZero toOne F0
     F1 unheldBy unheld unheldCount startFrom startVector lowest hasRank yielding yields fires flips pass walkBy walk readingAt readWord stateOk isPast
     sensorOk requestOk scanOf run hasVector endless lacks hasEndless vectorAt endlessAt judgeWords fails rejectionBy rejection verdictAt firstFailing scratchBytes judgeOf startOf
-    rawOf headerOf spelling nameField kindOf readField readOf readAt readsFrom outputOf outputAt outputsFrom narrows withLiteral literalsFrom constraintAt
+    rawOf headerOf spelling nameField kindOf readField readOf readAt readsFrom outputOf outputAt outputsFrom restAt narrows withLiteral literalsFrom constraintAt
     constraintsFrom countsAt loadFrom loadOf allNameBytes isUsed
 orders-worked = refl
+
+pub rests-worked : AllAnswered restCases
+unfolding onesIn odd bit without meets popcount gather bitIf word some all firstFrom first zeroSet constraint kind nameByte nameLength placeOk nameOk
+    nameZero sameName readNamed firstRead outputNamed firstOutput countTests lengthTests kindOk readOk readZero readPlace outputOk outputPlace rankOk
+    constraintTests constraintZero constraintPlace setTests wellFormed readsTrue outsTrue isTrue simple combined trueAt safe holding toZero toOne F0
+    F1 unheldBy unheld unheldCount startFrom startVector lowest hasRank yielding yields fires flips pass walkBy walk readingAt readWord stateOk isPast
+    sensorOk requestOk scanOf run hasVector endless lacks hasEndless vectorAt endlessAt judgeWords scratchBytes judgeOf startOf
+    rawOf headerOf spelling nameField kindOf readField readOf readAt readsFrom outputOf outputAt outputsFrom restAt narrows withLiteral literalsFrom constraintAt
+    constraintsFrom countsAt loadFrom loadOf allNameBytes isUsed
+rests-worked = refl
 
 pub scans-worked : AllAnswered scanCases
 unfolding onesIn odd bit without meets popcount gather bitIf word some all firstFrom first zeroSet constraint kind nameByte allNameBytes nameLength
@@ -70,7 +80,7 @@ finds-worked = refl
 
 pub texts-worked : AllAnswered textCases
 unfolding onesIn odd bit popcount some all joined firstFrom first nameByte allNameBytes nameLength nameBytes sameName readNamed firstRead outputNamed
-    firstOutput isUsed countTests zeroSet rawOf headerOf spelling nameField kindOf readField readOf readAt readsFrom outputOf outputAt outputsFrom narrows
-    withLiteral literalsFrom constraintAt constraintsFrom countsAt loadFrom loadOf leading decimal readLiteral outputLiteral neverLine shownLines spacedWords
+    firstOutput isUsed countTests zeroSet rawOf headerOf spelling nameField kindOf readField readOf readAt readsFrom outputOf outputAt outputsFrom restAt narrows
+    withLiteral literalsFrom constraintAt constraintsFrom countsAt loadFrom loadOf leading decimal restLine readLiteral outputLiteral neverLine shownLines spacedWords
     linesText textOf
 texts-worked = refl

@@ -11,7 +11,7 @@ use lib.ListN.{length, getD, drop, length-set}
 use Rattle.words.specs.Loop.{every}
 use Rattle.scan.specs.declared.set.OutputPoint.{OutputPoint}
 use Rattle.scan.specs.declared.set.Set.{Set}
-use Rattle.scan.specs.Set.{mostReads, mostOutputs, mostConstraints, zeroSet}
+use Rattle.scan.specs.Set.{mostReads, mostOutputs, zeroSet}
 use Rattle.scan.specs.Shape.{countTests}
 use Rattle.scan.proofs.ShapeLaws.{counts-told}
 use Rattle.header.specs.Test.{test, FirstFails, NoneFails}
@@ -20,14 +20,15 @@ use Rattle.header.proofs.TestLaws.{first-once, none-first}
 use Rattle.loader.specs.declared.loader.Progress.{Progress}
 use Rattle.loader.specs.declared.loader.Progress.the-variants.{At, Refused}
 use Rattle.loader.specs.Load.{Loading, thenFrom, andThen, goodIf, countsTold, countsMade, countsAt, readOf, withRead, readAt, readsFrom, outputOf, withOutput, outputAt, outputsFrom}
-use Rattle.loader.specs.Load.{constraintsFrom, afterCounts, afterReads, afterOutputs, answerOf, loadFrom, loadOf}
+use Rattle.loader.specs.Load.{afterCounts, afterReads, afterOutputs, answerOf, loadFrom, loadOf}
 use Rattle.loader.specs.Told.{loadTold}
 use Rattle.promise.specs.Fields.{fieldsFrom, inFields}
-use Rattle.promise.specs.Column.{countsFit, nameTests, readTests, constraintsTests, outputsTests, readsTests, countsTests, loadTests}
+use Rattle.promise.specs.Column.{countsFit, nameTests, readTests, outputsTests, readsTests, countsTests, loadTests}
 use Rattle.promise.proofs.HeadTests.{Agrees, Tells, BodyTells, field-tells}
 use Rattle.promise.proofs.NamesSoFar.{Named, NamesAre, names-none, nameOfRead, nameOfOutput}
 use Rattle.promise.proofs.PointTests.{ReadsSoFar, ReadMade, reads-none, reads-more, read-tells, output-tells, outputs-more}
-use Rattle.promise.proofs.EndFields.{Enough, enough-on, constraints-tell}
+use Rattle.promise.proofs.EndFields.{Enough, enough-on}
+use Rattle.promise.proofs.RestTests.{rest-tells}
 
 -- ---- the points
 
@@ -47,15 +48,12 @@ outputs-tell : (file : List ℕ) (left j most at : ℕ) (s : Set) (a b : List (L
     → j + left ≡ s .n → Fresh s → Enough file most at
     → Tells (andThen (outputsFrom file left j at s) (afterOutputs file)) (outputsTests left (s .r) (s .n) (a ++ b) (fieldsFrom most at (drop at file)))
 unfolding outputsFrom outputsTests outputAt
-outputs-tell file zero j most at s a b ra rb sum fresh n =
-    let none = fresh .0 in
-    subst (λ (m : ℕ). Tells (constraintsFrom file (suc mostConstraints) at s) (constraintsTests (s .r) (s .n) m (fieldsFrom most at (drop at file)))) none
-    (constraints-tell file (suc mostConstraints) most at s (omega arith) (omega arith) n)
+outputs-tell file zero j most at s a b ra rb sum fresh n = rest-tells file at s (fresh .0) most n
 outputs-tell file (suc left) j zero at s a b ra rb sum fresh n = let x = n .0 in let y = n .1 in absurd (omega arith)
 outputs-tell file (suc left) j (suc most) at s a b ra rb sum fresh n =
     subst (λ (l : Loading). Tells l (outputsTests (suc left) (s .r) (s .n) (a ++ b) (fieldsFrom (suc most) at (drop at file))))
     (sym (then-then (outputAt file at s j) (outputsFrom file left (j + 1)) (afterOutputs file)))
-    (field-tells file most at 3 (lit≤ tt) (lit≤ tt) (outputsTests (suc left) (s .r) (s .n) (a ++ b)) (λ body. outputOf s j body .taken) (made)
+    (field-tells file most at 3 (lit≤ tt) (lit≤ tt) refl (outputsTests (suc left) (s .r) (s .n) (a ++ b)) (λ body. outputOf s j body .taken) (made)
     (λ k t. andThen (outputsFrom file left (j + 1) k t) (afterOutputs file)) (λ body. Named (outputOf s j body .name) body) (nameTests at (a ++ b))
     (λ body rest. outputsTests left (s .r) (s .n) ((a ++ b) ++ (body ∷ [])) rest) refl refl (λ tag body rest. refl)
     (λ tag len body h long. let w = output-length (drop at file) tag len h in let low = w .0 in let high = w .1 in
@@ -84,7 +82,7 @@ reads-tell file (suc left) i zero at s kinds names so sum fresh n = let x = n .0
 reads-tell file (suc left) i (suc most) at s kinds names so sum fresh n =
     subst (λ (l : Loading). Tells l (readsTests (suc left) (s .r) (s .n) kinds names (fieldsFrom (suc most) at (drop at file))))
     (sym (then-then (readAt file at s i) (readsFrom file left (i + 1)) (afterReads file)))
-    (field-tells file most at 2 (lit≤ tt) (lit≤ tt) (readsTests (suc left) (s .r) (s .n) kinds names) (λ body. readOf s i body .taken) (λ body. withRead s i (readOf s i body .read))
+    (field-tells file most at 2 (lit≤ tt) (lit≤ tt) refl (readsTests (suc left) (s .r) (s .n) kinds names) (λ body. readOf s i body .taken) (λ body. withRead s i (readOf s i body .read))
     (λ k t. andThen (readsFrom file left (i + 1) k t) (afterReads file)) (λ body. ReadMade (readOf s i body .read) body) (readTests at (s .n) kinds names)
     (λ body rest. readsTests left (s .r) (s .n) (kinds ++ (getD body 0 0 ∷ [])) (names ++ (drop 2 body ∷ [])) rest) refl refl (λ tag body rest. refl)
     (λ tag len body h long. let w = read-length (drop at file) tag len h in let low = w .0 in let high = w .1 in
@@ -110,7 +108,7 @@ fit-same r n = counts-same (leb r 16) (leb 1 n) (leb n 12) (leb (r + n) 24)
 load-tells : (file : List ℕ) → Tells (loadFrom file) (loadTests file)
 unfolding loadFrom loadTests inFields countsTests countsAt zeroSet
 load-tells file =
-    field-tells file (length file) 0 1 (lit≤ tt) (lit≤ tt) countsTests countsTold countsMade (afterCounts file) (λ body. every (countTests (getD body 0 0) (getD body 1 0) 0) ≡ true)
+    field-tells file (length file) 0 1 (lit≤ tt) (lit≤ tt) refl countsTests countsTold countsMade (afterCounts file) (λ body. every (countTests (getD body 0 0) (getD body 1 0) 0) ≡ true)
     (λ body. test 5 0 (not (countsFit (getD body 0 0) (getD body 1 0))) ∷ []) (λ body rest. readsTests (getD body 0 0) (getD body 0 0) (getD body 1 0) [] [] rest) refl refl
     (λ tag body rest. refl)
     (λ tag len body h long. subst (λ (b : Bool). BodyTells 0 (countsTold body) (test 5 0 (not b) ∷ []) (every (countTests (getD body 0 0) (getD body 1 0) 0) ≡ true))

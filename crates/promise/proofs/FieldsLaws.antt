@@ -62,3 +62,11 @@ fields-at file most at e =
     let len = bodyLength left in
     let sum : at + (3 + len) ≡ at + 3 + len = omega arith in
     fields-field at left most e ∙ ap (λ (l : List ℕ). field at (getD left 0 0) (bodyOf left len) (fieldsFrom most (at + 3 + len) l)) (drop-drop (3 + len) at file ∙ ap (λ (k : ℕ). drop k file) sum)
+
+-- Two columns over the fields at a place are the same, if they are where no field stands and where one of the tag that stands there does.
+pub columns-same : {A : Type 0} (f g : Fields → A) (at : ℕ) (left : List ℕ) (most : ℕ) → f (ends at) ≡ g (ends at) → f (cut at) ≡ g (cut at)
+    → ((body : List ℕ) (rest : Fields) → f (field at (getD left 0 0) body rest) ≡ g (field at (getD left 0 0) body rest))
+    → f (fieldsFrom (suc most) at left) ≡ g (fieldsFrom (suc most) at left)
+unfolding fieldsFrom
+columns-same f g at left most none torn some =
+    by-test (eqb (length left) 0) (λ e. rw e none) (λ e. by-test (ltb (length left) (fieldSize left)) (λ t. rw (e, t) torn) (λ t. rw (e, t) (some _ _)))

@@ -1,11 +1,15 @@
 -- A file of bytes that loads says its set: the parts of the set, told from the bytes of the file's fields.
 -- Assumes nothing.
 use mathlib.Core.Path.{_≡_, refl, sym, ap, subst, _∙_}
-use mathlib.Core.Bool.{true, false}
+use mathlib.Core.Bool.{Bool, true, false, cond}
 use mathlib.Core.List.{List, [], _∷_, _++_}
-use mathlib.Core.Logic.{_↔_}
-use Prim.Native.Nat.{ℕ, _+_, _%_, _<_}
-use lib.ListN.{getD, drop}
+use mathlib.Core.Logic.{_↔_, inl, inr}
+use Prim.Native.Nat.{ℕ, _+_, _*_, _/_, _%_, _<_}
+use native.Mathlib.Decide.{ℕ-discrete}
+use native.Mathlib.Omega.{arith}
+use lib.Dec.{eqb}
+use lib.ListN.{length, getD, drop, replicate}
+use borrow.Author.Tests.{eq-eqb, ne-eqb}
 use Rattle.scan.specs.declared.set.Kind.{Kind}
 use Rattle.scan.specs.declared.set.Kind.the-variants.{Sensor, PastOutput, PastSensor}
 use Rattle.scan.specs.declared.set.Set.{Set}
@@ -15,14 +19,15 @@ use Rattle.scan.proofs.ShapeLaws.{counts, masks}
 use Rattle.header.specs.Bytes.{Bytes}
 use Rattle.loader.specs.Load.{loadOf}
 use Rattle.loader.specs.Told.{loadTold}
-use Rattle.writer.specs.Write.{kindBytes, literalBody, writeOf}
+use Rattle.writer.specs.Write.{kindBytes, literalBody, restBody, writeOf}
 use Rattle.setfile.proofs.WriteLoaded.{write-loaded}
 use Rattle.promise.specs.Allowed.{readName, outputName}
 use Rattle.promise.specs.Terms.{Bit, TrueAt}
-use Rattle.promise.specs.FileSays.{bodyOfRead, bodyOfOutput, bodyOfConstraint, KindSays, HasLiteral, literalByte, rankByte, LiteralTrue, Says, MasksSay, Guards, FileSays}
+use Rattle.promise.specs.FileSays.{bodyOfRead, bodyOfOutput, bodyOfConstraint, KindSays, RestSays, HasLiteral, literalByte, rankByte, LiteralTrue, Says, MasksSay, Guards, FileSays}
 use Rattle.promise.proofs.FileRefusals.{told-loaded}
 use Rattle.promise.proofs.NameRefusals.{find-refusals}
-use Rattle.promise.proofs.WrittenFields.{SetFields, written-fields}
+use Rattle.promise.proofs.WrittenFields.{SetFields, restBodies, written-fields}
+use Rattle.promise.proofs.RestWords.{rest-word}
 use Rattle.promise.proofs.ConstraintsSay.{mask-says, true-says, rank-says, output-says, read-says}
 
 -- ---- read points
@@ -38,6 +43,17 @@ name-says : (k : Kind) (name : List ℕ) → name ≡ drop 2 (kindBytes k ++ nam
 name-says Sensor name = refl
 name-says (PastOutput i) name = refl
 name-says (PastSensor i) name = refl
+
+-- ---- the rest word
+
+-- its bodies, none for 0
+rest-says : (word : ℕ) → RestSays (restBodies word) word
+unfolding restBodies
+rest-says word = go (ℕ-discrete word 0)
+  where
+    go : Dec (word ≡ 0) → RestSays (cond (eqb word 0) [] (restBody word ∷ [])) word
+    go (yes z) = inl (ap (λ (b : Bool). cond b [] (restBody word ∷ [])) (eq-eqb word 0 z), z)
+    go (no nz) = inr (word / 256, word % 256, ap (λ (b : Bool). cond b [] (restBody word ∷ [])) (ne-eqb word 0 nz), omega arith, omega arith)
 
 -- ---- a file with the fields of a well-formed set
 
@@ -102,11 +118,13 @@ module _ (file : List ℕ) (s : Set) (ok : wellFormed s ≡ true) (f : SetFields
   fields-say : FileSays file s
   fields-say = record {
     whole = f .whole;
-    order = f .order;
+    order = f .order ∙ ap (λ (l : List (List ℕ)). 0x01 ∷ replicate (s .r) 0x02 ++ replicate (s .n) 0x03 ++ replicate (length l) 0x06 ++ replicate (s .m) 0x04 ++ 0x05 ∷ []) (sym (f .rests));
     counts = f .counts;
     kinds = kinds;
     read-names = read-names;
     output-names = output-names;
+    rest = subst (λ (l : List (List ℕ)). RestSays l (s .rest)) (sym (f .rests)) (rest-says (s .rest));
+    rest-by-name = λ k b. let within = rest-word .bits s ok k b in find-refusals s (bodyOfOutput file k) .output k .1 (ok, within, output-names k within);
     constraints = constraint-says;
     masks = masks-say;
     ranks = ranks-say;

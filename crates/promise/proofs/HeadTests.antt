@@ -85,17 +85,18 @@ table-all low high len =
     ap (λ (b : Bool). b || false) (sym (and-unit (within low high len))) ∙ table-end (leb low len) (leb len high) true ∙ ap (λ (b : Bool). leb low len && (leb len high && b)) (sym (mod-one len))
 
 -- both tables are one; there is no tag 0
-table-same : (tag len : ℕ) → 1 ≤ tag → tag ≤ 5 → lengthFits tag len ≡ fitsTable tag len
+table-same : (tag len : ℕ) → 1 ≤ tag → tag ≤ 6 → lengthFits tag len ≡ fitsTable tag len
 unfolding lengthFits
 table-same zero len l h = absurd (omega arith)
 table-same (suc zero) len l h = or-none (eqb len 2) ∙ table-one 2 len
 table-same (suc (suc zero)) len l h = table-all 3 10 len
 table-same (suc (suc (suc zero))) len l h = table-all 1 8 len
 table-same (suc (suc (suc (suc zero)))) len l h = table-end (leb 2 len) (leb len 48) (eqb (len % 2) 0)
-table-same (suc (suc (suc (suc (suc zero))))) len l h = table-one 0 len
-table-same (suc (suc (suc (suc (suc (suc tag)))))) len l h = absurd (omega arith)
+table-same (suc (suc (suc (suc (suc zero))))) len l h = or-none (eqb len 0) ∙ table-one 0 len
+table-same (suc (suc (suc (suc (suc (suc zero)))))) len l h = table-one 2 len
+table-same (suc (suc (suc (suc (suc (suc (suc tag))))))) len l h = absurd (omega arith)
 
-due-between : (wanted tag : ℕ) → 1 ≤ wanted → wanted ≤ 4 → isDue wanted tag ≡ true → (1 ≤ tag) × (tag ≤ 5)
+due-between : (wanted tag : ℕ) → 1 ≤ wanted → wanted ≤ 6 → isDue wanted tag ≡ true → (1 ≤ tag) × (tag ≤ 6)
 due-between wanted tag l h e =
     by-test (eqb tag wanted)
     (λ t. let s = eqb-true tag wanted t in (omega arith, omega arith))
@@ -109,7 +110,7 @@ pub record HeadColumn (at wanted m : ℕ) (column : Fields → List Test) : Type
   pub full : ℕ → Bool
   pub more : ℕ → List ℕ → Fields → List Test
   pub low : 1 ≤ wanted
-  pub high : wanted ≤ 4
+  pub high : wanted ≤ 6
   pub same-due : (tag : ℕ) → isDue wanted tag ≡ due tag
   pub same-full : (tag : ℕ) → (eqb tag 0x04 && leb mostConstraints m) ≡ full tag
   pub at-end : column (ends at) ≡ missing at
@@ -177,7 +178,7 @@ done-tells at len (Denied c) s next P tests others x y = first-front tests other
 done-tells at len Good s next P tests others x y = agrees-behind (next (at + 3 + len) s .progress) tests others (x .0) (y (x .1))
 
 -- A field of one tag that is due tells what its header's tests tell, then what its body tells, and then what follows it.
-pub field-tells : (file : List ℕ) (most at wanted : ℕ) → 1 ≤ wanted → wanted ≤ 3 → (column : Fields → List Test)
+pub field-tells : (file : List ℕ) (most at wanted : ℕ) → 1 ≤ wanted → wanted ≤ 6 → eqb wanted 4 ≡ false → (column : Fields → List Test)
     (told : List ℕ → Taken) (made : List ℕ → Set) (next : ℕ → Set → Loading) (P : List ℕ → Type 0) (tests : List ℕ → List Test) (later : List ℕ → Fields → List Test)
     → column (ends at) ≡ missing at → column (cut at) ≡ missing at
     → ((tag : ℕ) (body : List ℕ) (rest : Fields) → column (field at tag body rest) ≡ headTests at (eqb tag wanted) false tag body ++ (tests body ++ later body rest))
@@ -185,15 +186,15 @@ pub field-tells : (file : List ℕ) (most at wanted : ℕ) → 1 ≤ wanted → 
     → ((tag len : ℕ) (body : List ℕ) → headerOf (drop at file) wanted 0 ≡ Field tag len → length body ≡ len → P body
     → Tells (next (at + 3 + len) (made body)) (later body (fieldsFrom most (at + 3 + len) (drop (at + 3 + len) file))))
     → Tells (andThen (fieldAt file at wanted told made) next) (column (fieldsFrom (suc most) at (drop at file)))
-field-tells file most at wanted low high column told made next P tests later none torn split one on =
+field-tells file most at wanted low high single column told made next P tests later none torn split one on =
     by-header file most at wanted 0 column
     (record {
       due = λ tag. eqb tag wanted;
       full = λ tag. false;
       more = λ tag body rest. tests body ++ later body rest;
       low = low;
-      high = omega arith;
-      same-due = λ tag. ap (λ (b : Bool). eqb tag wanted || (b && eqb tag 5)) (ne-eqb wanted 4 (λ e. omega arith)) ∙ or-none (eqb tag wanted);
+      high = high;
+      same-due = λ tag. ap (λ (b : Bool). eqb tag wanted || (b && eqb tag 5)) single ∙ or-none (eqb tag wanted);
       same-full = λ tag. and-false (eqb tag 4) false refl;
       at-end = none;
       at-cut = torn;

@@ -54,6 +54,7 @@ use Rattle.promise.proofs.ExactVerdicts.{told-accepted, exact-verdict, 
 use Rattle.promise.proofs.OneGroups.{one-group}
 use Rattle.promise.proofs.ScanLists.{sends-mean, right-scans}
 use Rattle.promise.proofs.PowerUps.{power-up}
+use Rattle.promise.proofs.RestWords.{rest-word}
 use Rattle.promise.proofs.OneWords.{by-active}
 
 -- ---- demand 1
@@ -163,6 +164,7 @@ promise = record {
   meanings = meanings;
   reads = reads-mean;
   power-up = power-up;
+  rest-word = rest-word;
   by-active = λ s w ok. by-active s ok w;
   name-bytes = name-bytes-iff;
   files = file-says;

@@ -9,6 +9,7 @@ pub mod NamesSoFar
 pub mod PointTests
 pub mod LiteralTests
 pub mod EndFields
+pub mod RestTests
 pub mod ColumnLaws
 pub mod FileRefusals
 pub mod SetRefusals
@@ -20,6 +21,7 @@ pub mod NameRefusals
 pub mod NameMeanings
 pub mod PlaceMeanings
 pub mod LoneRankMeanings
+pub mod RestWords
 pub mod ExactVerdicts
 pub mod OneGroups
 pub mod ScanLists
@@ -31,6 +33,7 @@ pub mod FilesSay
 pub mod TextLines
 pub mod LineLiterals
 pub mod ConstraintsShown
+pub mod RestLines
 pub mod TextsSay
 pub mod OneText
 pub mod TextRefusals

@@ -13,18 +13,18 @@ use lib.Seq.{ext-getD}
 use borrow.Author.Tests.{ltb-true}
 use Rattle.words.specs.Word.{bit}
 use Rattle.words.proofs.BoolLaws.{by-test, and-true, same-truth}
-use Rattle.words.proofs.BitLaws.{same-bits}
+use Rattle.words.proofs.BitLaws.{same-bits, bit-below}
 use Rattle.scan.specs.declared.set.Kind.{Kind}
 use Rattle.scan.specs.declared.set.Kind.the-variants.{Sensor, PastOutput, PastSensor}
 use Rattle.scan.specs.declared.set.Set.{Set}
 use Rattle.scan.specs.Set.{readPoint, outputPoint, kind, constraint, rank, noRead, noOutput, noConstraint}
 use Rattle.scan.specs.Shape.{kindOk, isSensor, wellFormed}
-use Rattle.scan.proofs.ShapeLaws.{masks, read-formed, points-formed}
+use Rattle.scan.proofs.ShapeLaws.{rest-lt, masks, read-formed, points-formed}
 use Rattle.text.specs.Text.{textOf}
 use Rattle.promise.specs.Allowed.{readName, outputName}
 use Rattle.promise.specs.Terms.{Bit}
 use Rattle.promise.specs.Meanings.{PlacesMean}
-use Rattle.promise.specs.Texts.{partsAt, wordsOf, neverWord, onWord, offWord, ReadShown, Shown, literalsIn, literalsOf, Opened, OfRead, OfOutput, SaysRead, SaysOutput, NeverSays, TextSays}
+use Rattle.promise.specs.Texts.{partsAt, wordsOf, neverWord, onWord, offWord, ReadShown, RestShown, Shown, literalsIn, literalsOf, Opened, OfRead, OfOutput, SaysRead, SaysOutput, NeverSays, TextSays}
 use Rattle.promise.proofs.Bits.{bit-set, set-bit, bit-clear}
 use Rattle.promise.proofs.NameRefusals.{find-refusals}
 use Rattle.promise.proofs.NameMeanings.{names-mean}
@@ -33,23 +33,34 @@ use Rattle.promise.proofs.TextsSay.{text-says}
 
 -- ---- counts: the first byte of a line tells which it is
 
--- o, s or p, n, e
-record Tells (n r m : ℕ) (first : ℕ → ℕ) : Type 0 where
+-- o, s or p, r, n, e
+record Tells (n r q m : ℕ) (first : ℕ → ℕ) : Type 0 where
   output : (k : ℕ) → k < n → first k ≡ 0x6F
   read : (k : ℕ) → k < r → (first (n + k) ≡ 0x73) ⊎ (first (n + k) ≡ 0x70)
-  never : (k : ℕ) → k < m → first (n + r + k) ≡ 0x6E
-  ends : first (n + r + m) ≡ 0x65
+  rest : (k : ℕ) → k < q → first (n + r + k) ≡ 0x72
+  never : (k : ℕ) → k < m → first (n + r + q + k) ≡ 0x6E
+  ends : first (n + r + q + m) ≡ 0x65
 
-module _ (n r m : ℕ) (first : ℕ → ℕ) (t : Tells n r m first) where
-  -- the line behind the read points
-  behind-reads : (first (n + r) ≡ 0x6E) ⊎ (first (n + r) ≡ 0x65)
-  behind-reads = go (decLt 0 m)
+module _ (n r q m : ℕ) (first : ℕ → ℕ) (t : Tells n r q m first) where
+  -- the line behind the outputs at rest
+  behind-rests : (first (n + r + q) ≡ 0x6E) ⊎ (first (n + r + q) ≡ 0x65)
+  behind-rests = go (decLt 0 m)
     where
-      go : Dec (0 < m) → (first (n + r) ≡ 0x6E) ⊎ (first (n + r) ≡ 0x65)
+      go : Dec (0 < m) → (first (n + r + q) ≡ 0x6E) ⊎ (first (n + r + q) ≡ 0x65)
       go (yes h) = inl (ap first (omega arith) ∙ t .never 0 h)
       go (no h) = inr (ap first (omega arith) ∙ t .ends)
 
-  no-output : first n ≡ 0x6F → ⊥
+  -- the line behind the read points
+  behind-reads : (first (n + r) ≡ 0x72) ⊎ ((first (n + r) ≡ 0x6E) ⊎ (first (n + r) ≡ 0x65))
+  behind-reads = go (decLt 0 q)
+    where
+      go : Dec (0 < q) → (first (n + r) ≡ 0x72) ⊎ ((first (n + r) ≡ 0x6E) ⊎ (first (n + r) ≡ 0x65))
+      go (yes h) = inl (ap first (omega arith) ∙ t .rest 0 h)
+      go (no h) =
+          let e : first (n + r) ≡ first (n + r + q) = ap first (omega arith) in
+          inr (⊎-elim (λ a. inl (e ∙ a)) (λ a. inr (e ∙ a)) behind-rests)
+
+  no-output : ¬ (first n ≡ 0x6F)
   no-output e = go (decLt 0 r)
     where
       go : Dec (0 < r) → ⊥
@@ -58,23 +69,34 @@ module _ (n r m : ℕ) (first : ℕ → ℕ) (t : Tells n r m first) where
           ⊎-elim (λ a. omega arith) (λ a. omega arith) (t .read 0 h)
       go (no h) =
           let z : first (n + r) ≡ 0x6F = ap first (omega arith) ∙ e in
-          ⊎-elim (λ a. omega arith) (λ a. omega arith) behind-reads
+          ⊎-elim (λ a. omega arith) (⊎-elim (λ a. omega arith) (λ a. omega arith)) behind-reads
 
-  no-read : (first (n + r) ≡ 0x73) ⊎ (first (n + r) ≡ 0x70) → ⊥
-  no-read = ⊎-elim (λ a. ⊎-elim (λ b. omega arith) (λ b. omega arith) behind-reads) (λ a. ⊎-elim (λ b. omega arith) (λ b. omega arith) behind-reads)
+  no-read : ¬ ((first (n + r) ≡ 0x73) ⊎ (first (n + r) ≡ 0x70))
+  no-read =
+      ⊎-elim (λ a. ⊎-elim (λ b. omega arith) (⊎-elim (λ b. omega arith) (λ b. omega arith)) behind-reads)
+      (λ a. ⊎-elim (λ b. omega arith) (⊎-elim (λ b. omega arith) (λ b. omega arith)) behind-reads)
 
-same-counts : (n r m n′ r′ m′ : ℕ) (first : ℕ → ℕ) → Tells n r m first → Tells n′ r′ m′ first → n + r + m ≡ n′ + r′ + m′ → (n ≡ n′) × (r ≡ r′) × (m ≡ m′)
-same-counts n r m n′ r′ m′ first t u total = go (decLt n n′) (decLt n′ n)
+  no-rest : ¬ (first (n + r + q) ≡ 0x72)
+  no-rest e = ⊎-elim (λ a. omega arith) (λ a. omega arith) behind-rests
+
+-- two runs of lines of one sort that both end where another sort stands
+same-run : (Sort : ℕ → Type 0) (n n′ : ℕ) → ((k : ℕ) → k < n → Sort k) → ¬ Sort n → ((k : ℕ) → k < n′ → Sort k) → ¬ Sort n′ → n ≡ n′
+same-run Sort n n′ a end b end′ = go (decLt n n′) (decLt n′ n)
   where
-    reads : n ≡ n′ → Dec (r < r′) → Dec (r′ < r) → (n ≡ n′) × (r ≡ r′) × (m ≡ m′)
-    reads e (yes a) b = absurd (no-read n r m first t (subst (λ (x : ℕ). (first (x + r) ≡ 0x73) ⊎ (first (x + r) ≡ 0x70)) (sym e) (u .read r a)))
-    reads e (no a) (yes b) = absurd (no-read n′ r′ m′ first u (subst (λ (x : ℕ). (first (x + r′) ≡ 0x73) ⊎ (first (x + r′) ≡ 0x70)) e (t .read r′ b)))
-    reads e (no a) (no b) = (e, omega arith, omega arith)
+    go : Dec (n < n′) → Dec (n′ < n) → n ≡ n′
+    go (yes h) l = absurd (end (b n h))
+    go (no h) (yes l) = absurd (end′ (a n′ l))
+    go (no h) (no l) = omega arith
 
-    go : Dec (n < n′) → Dec (n′ < n) → (n ≡ n′) × (r ≡ r′) × (m ≡ m′)
-    go (yes a) b = absurd (no-output n r m first t (u .output n a))
-    go (no a) (yes b) = absurd (no-output n′ r′ m′ first u (t .output n′ b))
-    go (no a) (no b) = reads (omega arith) (decLt r r′) (decLt r′ r)
+same-counts : (n r q m n′ r′ q′ m′ : ℕ) (first : ℕ → ℕ) → Tells n r q m first → Tells n′ r′ q′ m′ first → n + r + q + m ≡ n′ + r′ + q′ + m′
+    → (n ≡ n′) × (r ≡ r′) × (q ≡ q′) × (m ≡ m′)
+same-counts n r q m n′ r′ q′ m′ first t u total =
+    let en = same-run (λ (k : ℕ). first k ≡ 0x6F) n n′ (t .output) (no-output n r q m first t) (u .output) (no-output n′ r′ q′ m′ first u) in
+    let v = subst (λ (x : ℕ). Tells x r′ q′ m′ first) (sym en) u in
+    let er = same-run (λ (k : ℕ). (first (n + k) ≡ 0x73) ⊎ (first (n + k) ≡ 0x70)) r r′ (t .read) (no-read n r q m first t) (v .read) (no-read n r′ q′ m′ first v) in
+    let w = subst (λ (x : ℕ). Tells n x q′ m′ first) (sym er) v in
+    let eq = same-run (λ (k : ℕ). first (n + r + k) ≡ 0x72) q q′ (t .rest) (no-rest n r q m first t) (w .rest) (no-rest n r q′ m′ first w) in
+    (en, er, eq, omega arith)
 
 -- the first byte of a line's first word
 abbrev firstByte : List (List ℕ) → ℕ
@@ -87,13 +109,14 @@ first-literal zero words h o = absurd (omega arith)
 first-literal (suc most) [] h o = absurd (omega arith)
 first-literal (suc most) (w ∷ words) h o = o .0
 
-tells : (s : Set) (text : List ℕ) → TextSays s text → Tells (s .n) (s .r) (s .m) (λ k. firstByte (wordsOf text k))
+tells : (s : Set) (text : List ℕ) (t : TextSays s text) → Tells (s .n) (s .r) (t .resting) (s .m) (λ k. firstByte (wordsOf text k))
 unfolding partsAt
 tells s text t = record {
   output = λ k h. ap firstByte (t .outputs k h);
   read = λ k h. by-kind (kind s k) k (wordsOf text (s .n + k)) (t .reads k h);
+  rest = λ k h. ap firstByte (t .at-rest k h .2);
   never = λ k h.
-      let words = wordsOf text (s .n + s .r + k) in
+      let words = wordsOf text (s .n + s .r + t .resting + k) in
       ap (λ (w : List ℕ). getD w 0 0) (first-literal (length words) words (t .constraints k h .some) (t .constraints k h .opened));
   ends = ap (λ (l : List ℕ). firstByte (partsAt 0x20 l)) (t .last);
 }
@@ -122,10 +145,10 @@ names-of s ok k h = go (readPoint (s .reads) k .kind) (read-formed (s .reads) (s
 -- ---- two sets of one text
 
 module _ (s t : Set) (os : wellFormed s ≡ true) (ot : wellFormed t ≡ true) (text : List ℕ) (a : TextSays s text) (b : TextSays t text) where
-  counts-same : (s .n ≡ t .n) × (s .r ≡ t .r) × (s .m ≡ t .m)
+  counts-same : (s .n ≡ t .n) × (s .r ≡ t .r) × (a .resting ≡ b .resting) × (s .m ≡ t .m)
   counts-same =
-      let total : s .n + s .r + s .m + 2 ≡ t .n + t .r + t .m + 2 = sym (a .count) ∙ b .count in
-      same-counts (s .n) (s .r) (s .m) (t .n) (t .r) (t .m) (λ k. firstByte (wordsOf text k)) (tells s text a) (tells t text b) (omega arith)
+      let total : s .n + s .r + a .resting + s .m + 2 ≡ t .n + t .r + b .resting + t .m + 2 = sym (a .count) ∙ b .count in
+      same-counts (s .n) (s .r) (a .resting) (s .m) (t .n) (t .r) (b .resting) (t .m) (λ k. firstByte (wordsOf text k)) (tells s text a) (tells t text b) (omega arith)
 
   n-same : s .n ≡ t .n
   n-same = counts-same .0
@@ -133,8 +156,11 @@ module _ (s t : Set) (os : wellFormed s ≡ true) (ot : wellFormed t ≡ true) (
   r-same : s .r ≡ t .r
   r-same = counts-same .1
 
+  resting-same : a .resting ≡ b .resting
+  resting-same = counts-same .2
+
   m-same : s .m ≡ t .m
-  m-same = counts-same .2
+  m-same = counts-same .3
 
   -- ---- names
 
@@ -217,7 +243,7 @@ module _ (s t : Set) (os : wellFormed s ≡ true) (ot : wellFormed t ≡ true) (
       let lt = places-t .places in
       ext-getD noRead (s .reads) (t .reads) (ls .0 ∙ sym (lt .0)) (λ k h. read-point k (omega (arith, ls .0)))
 
-  -- ---- constraints: a name finds the same point in both
+  -- ---- a name finds the same point in both
 
   found-read : (l : Shown) (k : ℕ) → OfRead s l k ↔ OfRead t l k
   found-read l k = (
@@ -237,15 +263,48 @@ module _ (s t : Set) (os : wellFormed s ≡ true) (ot : wellFormed t ≡ true) (
         find-refusals s (l .name) .output k .1 (os, h, output-name k h ∙ x .2),
   )
 
-  -- two masks with the same literals
+  -- two masks with the same bits
   mask-same : (n p q : ℕ) → p < 2 ^ n → q < 2 ^ n → ((k : ℕ) → Bit k p ↔ Bit k q) → p ≡ q
   mask-same n p q hp hq e =
       same-bits n p q hp hq
       (λ k h. same-truth (bit k p) (bit k q) (λ x. set-bit k q (e k .0 (bit-set k p x))) (λ x. set-bit k p (e k .1 (bit-set k q x))))
 
+  read-lt : (x : ℕ) → x < 2 ^ t .r → x < 2 ^ s .r
+  read-lt x l = subst (λ (k : ℕ). x < 2 ^ k) (sym r-same) l
+
+  out-lt : (x : ℕ) → x < 2 ^ t .n → x < 2 ^ s .n
+  out-lt x l = subst (λ (k : ℕ). x < 2 ^ k) (sym n-same) l
+
+  -- ---- the rest word
+
+  -- a line is of the same output in both
+  rest-one : (j k l : ℕ) → Bit k (s .rest) → Bit l (t .rest) → RestShown s k (wordsOf text (s .n + s .r + j)) → RestShown t l (wordsOf text (t .n + t .r + j)) → k ≡ l
+  rest-one j k l x y e f =
+      let hk = bit-below (s .n) k (s .rest) (rest-lt s os) (set-bit k (s .rest) x) in
+      let hl = bit-below (s .n) l (t .rest) (out-lt (t .rest) (rest-lt t ot)) (set-bit l (t .rest) y) in
+      let place : s .n + s .r + j ≡ t .n + t .r + j = omega (arith, n-same, r-same) in
+      names-mean s os .one-output k l hk hl (ap (λ (ws : List (List ℕ)). getD ws 1 []) (sym e ∙ ap (wordsOf text) place ∙ f) ∙ sym (output-name l hl))
+
+  rest-bits : (k : ℕ) → Bit k (s .rest) ↔ Bit k (t .rest)
+  rest-bits k = (
+    λ x.
+        let line = a .rests k x in
+        let other = b .at-rest (line .0) (omega (arith, resting-same, line .1)) in
+        subst (λ (l : ℕ). Bit l (t .rest)) (sym (rest-one (line .0) k (other .0) x (other .1) (line .2) (other .2))) (other .1),
+    λ y.
+        let line = b .rests k y in
+        let other = a .at-rest (line .0) (omega (arith, resting-same, line .1)) in
+        subst (λ (l : ℕ). Bit l (s .rest)) (rest-one (line .0) (other .0) k (other .1) y (other .2) (line .2)) (other .1),
+  )
+
+  rest-same : s .rest ≡ t .rest
+  rest-same = mask-same (s .n) (s .rest) (t .rest) (rest-lt s os) (out-lt (t .rest) (rest-lt t ot)) rest-bits
+
+  -- ---- constraints
+
   module _ (i : ℕ) (h : i < s .m) where
     abbrev line : List Shown
-    line = literalsOf text (s .n + s .r + i)
+    line = literalsOf text (s .n + s .r + a .resting + i)
 
     it : i < t .m
     it = omega (arith, m-same)
@@ -254,7 +313,7 @@ module _ (s t : Set) (os : wellFormed s ≡ true) (ot : wellFormed t ≡ true) (
     own-s = a .constraints i h
 
     own-t : NeverSays t i line
-    own-t = subst (λ (k : ℕ). NeverSays t i (literalsOf text k)) (omega (arith, n-same, r-same)) (b .constraints i it)
+    own-t = subst (λ (k : ℕ). NeverSays t i (literalsOf text k)) (omega (arith, n-same, r-same, resting-same)) (b .constraints i it)
 
     says-read : (k : ℕ) (state : List ℕ) → SaysRead s line k state ↔ SaysRead t line k state
     says-read k state = (λ x. (x .0, x .1, found-read (x .0) k .0 (x .2), x .3), λ x. (x .0, x .1, found-read (x .0) k .1 (x .2), x .3))
@@ -264,12 +323,6 @@ module _ (s t : Set) (os : wellFormed s ≡ true) (ot : wellFormed t ≡ true) (
 
     chain : {A B C D : Type 0} → A ↔ B → B ↔ C → D ↔ C → A ↔ D
     chain f g e = (λ x. e .1 (g .0 (f .0 x)), λ x. f .1 (g .1 (e .0 x)))
-
-    read-lt : (x : ℕ) → x < 2 ^ t .r → x < 2 ^ s .r
-    read-lt x l = subst (λ (k : ℕ). x < 2 ^ k) (sym r-same) l
-
-    out-lt : (x : ℕ) → x < 2 ^ t .n → x < 2 ^ s .n
-    out-lt x l = subst (λ (k : ℕ). x < 2 ^ k) (sym n-same) l
 
     out-plain : constraint s i .«out_plain» ≡ constraint t i .«out_plain»
     out-plain =
@@ -328,7 +381,7 @@ module _ (s t : Set) (os : wellFormed s ≡ true) (ot : wellFormed t ≡ true) (
 
   -- What a text says is one set.
   pub one-set : s ≡ t
-  one-set = λ j. record { r = r-same j; n = n-same j; m = m-same j; reads = reads-same j; outputs = outputs-same j; constraints = constraints-same j }
+  one-set = λ j. record { r = r-same j; n = n-same j; m = m-same j; rest = rest-same j; reads = reads-same j; outputs = outputs-same j; constraints = constraints-same j }
 
 -- Two well-formed sets with the same text are the same set.
 pub one-text : (s t : Set) → wellFormed s ≡ true → wellFormed t ≡ true → textOf s ≡ textOf t → s ≡ t

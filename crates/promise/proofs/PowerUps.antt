@@ -161,7 +161,7 @@ power-up = record {
   state-no-edge = λ st present e. no-edge (st .set) (wordOf st present) (st .«past_output») present (reads-mean st present .first e);
   unread = unread;
   state-next = next;
-  list-no-edge = λ s before n c. no-edge s (readAfter s before c) 0 (c .sensor) (reads-of-list s before c .none n);
+  list-no-edge = λ s before n c. no-edge s (readAfter s before c) (s .rest) (c .sensor) (reads-of-list s before c .none n);
   list-next = λ s before b earlier l c. pasts-read s (readAfter s before c) _ (b .sensor) (c .sensor) (reads-of-list s before c .last b earlier l);
 }
   where

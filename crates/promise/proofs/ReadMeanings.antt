@@ -91,7 +91,7 @@ module _ (s : Set) where
       )
 
   -- and a start's where there is none
-  no-pasts : (before : List Call) → NoneAllowed s before → (pastOutput s before ≡ 0) × (pastSensor s before ≡ 0) × (anyAllowed s before ≡ false)
+  no-pasts : (before : List Call) → NoneAllowed s before → (pastOutput s before ≡ s .rest) × (pastSensor s before ≡ 0) × (anyAllowed s before ≡ false)
   unfolding pastOutput pastSensor readAfter anyAllowed
   no-pasts [] n = (refl, refl, refl)
   no-pasts (x ∷ before) n =

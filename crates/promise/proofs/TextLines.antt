@@ -98,6 +98,11 @@ pub lines-each : {A : Type 0} (f : A → List (List ℕ)) (l : List A) (d : A) �
 lines-each f [] d a = tt
 lines-each f (x ∷ l) d a = (a 0 (omega arith), lines-each f l d (λ k h. a (suc k) (omega arith)))
 
+pub lines-joined : (f : ℕ → List (List (List ℕ))) (n : ℕ) → ((k : ℕ) → SolidLines (f k)) → SolidLines (joined n f)
+unfolding joined
+lines-joined f zero a = tt
+lines-joined f (suc n) a = lines-both (joined n f) (f n) (lines-joined f n a) (a n)
+
 -- words with spaces between them have no LF
 free-line : (line : List (List ℕ)) → SolidLine line → Free 0x0A (parted line)
 unfolding spacedWords

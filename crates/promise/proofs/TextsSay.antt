@@ -1,4 +1,4 @@
--- The text of a well-formed set says the set: its lines and words are those of its outputs, read points and constraints.
+-- The text of a well-formed set says the set: its lines and words are those of its outputs, read points, outputs at rest and constraints.
 -- Assumes nothing.
 use mathlib.Core.Path.{_≡_, refl, sym, ap, ap₂, subst, _∙_}
 use mathlib.Core.Bool.{Bool, true, false, cond, not, _&&_, _||_}
@@ -7,7 +7,7 @@ use Prim.Native.Nat.{ℕ, zero, suc, _+_, _<_}
 use native.Mathlib.Omega.{arith}
 use lib.Dec.{eqb, ltb}
 use lib.Bits.{or-lt}
-use lib.ListN.{length, getD, take, length-append, length-map}
+use lib.ListN.{length, getD, take, length-append, length-map, List·getD-append}
 use lib.Seq.{length-take-le, getD-take, getD-append-add}
 use borrow.Author.Tests.{ltb-true}
 use Rattle.words.specs.Word.{bit}
@@ -25,13 +25,14 @@ use Rattle.scan.specs.declared.set.Set.{Set}
 use Rattle.scan.specs.Set.{mostReads, mostOutputs, readPoint, outputPoint, kind, constraint, rank, outs, noRead, noOutput, noConstraint}
 use Rattle.scan.specs.Shape.{kindOk, isSensor, wellFormed}
 use Rattle.scan.proofs.ShapeLaws.{Masks, counts, lengths, masks, outs-lt, read-formed, points-formed}
-use Rattle.text.specs.Grammar.{output-word, sensor-word, past-word, of-word, never-word, and-word, on-word, off-word, rank-word, end-word}
-use Rattle.text.specs.Text.{outputLine, kindLine, readLine, stateWord, behind, namedBelow, namedReads, several, readLiteral, outputLiteral, neverLine, spacedWords, parted, shownLines, linesText, textOf}
+use Rattle.text.specs.Grammar.{output-word, sensor-word, past-word, of-word, rest-word, never-word, and-word, on-word, off-word, rank-word, end-word}
+use Rattle.text.specs.Text.{outputLine, kindLine, readLine, restLine, stateWord, behind, namedBelow, namedReads, several, readLiteral, outputLiteral, neverLine, spacedWords, parted, shownLines, linesText, textOf}
 use Rattle.promise.specs.Allowed.{readName, outputName}
 use Rattle.promise.specs.Texts.{partsAt, linesOf, lineAt, wordsOf, ReadShown, TextSays}
 use Rattle.promise.proofs.NameMeanings.{names-mean}
 use Rattle.promise.proofs.ConstraintsShown.{never-words, never-says}
-use Rattle.promise.proofs.TextLines.{Solid, AllSolid, SolidLine, SolidLines, solid-append, solid-joined, line-back, lines-both, lines-each, lines-back, line-at, solid-at, line-behind, lines-count}
+use Rattle.promise.proofs.RestLines.{restLines, rest-below, rest-of, rest-for, rest-rising}
+use Rattle.promise.proofs.TextLines.{Solid, AllSolid, SolidLine, SolidLines, solid-append, solid-joined, line-back, lines-both, lines-each, lines-joined, lines-back, line-at, solid-at, line-behind, lines-count}
 
 -- ---- words that are no names
 
@@ -95,6 +96,14 @@ module _ (s : Set) (ok : wellFormed s ≡ true) where
   read-line : (j : ℕ) → j < s .r → SolidLine (readLine s (readPoint (s .reads) j))
   read-line j h = kind-line j h (readPoint (s .reads) j .kind) (read-formed (s .reads) (s .n) j (points-formed s ok .read-ok j h) .kind-ok)
 
+  rest-line : (k : ℕ) → SolidLines (restLine s k)
+  unfolding restLine
+  rest-line k = go (bit k (s .rest)) refl
+    where
+      go : (on : Bool) → bit k (s .rest) ≡ on → SolidLines (cond on ((rest-word ∷ outputName s k ∷ []) ∷ []) [])
+      go true e = ((solid-by rest-word refl, (output-solid k (rest-below s ok k e), tt)), tt)
+      go false e = tt
+
   -- ---- constraints
 
   module _ (c : Constraint) (ms : Masks (s .r) (s .n) c) where
@@ -146,34 +155,41 @@ module _ (s : Set) (ok : wellFormed s ≡ true) where
   abbrev endLines : List (List (List ℕ))
   endLines = (end-word ∷ []) ∷ []
 
+  -- the lines behind those of the points
+  abbrev laterLines : List (List (List ℕ))
+  laterLines = restLines s ok ++ (neverLines ++ endLines)
+
   -- the lines of the set
   abbrev lines : List (List (List ℕ))
-  lines = outputLines ++ (readLines ++ (neverLines ++ endLines))
+  lines = outputLines ++ (readLines ++ laterLines)
 
   lines-shown : shownLines s ≡ lines
   unfolding shownLines
   lines-shown =
-      append-assoc (outputLines ++ readLines) neverLines endLines ∙ append-assoc outputLines readLines (neverLines ++ endLines)
+      append-assoc ((outputLines ++ readLines) ++ restLines s ok) neverLines endLines
+      ∙ append-assoc (outputLines ++ readLines) (restLines s ok) (neverLines ++ endLines)
+      ∙ append-assoc outputLines readLines laterLines
 
   lines-solid : SolidLines lines
   unfolding constraint
   lines-solid =
-      lines-both outputLines (readLines ++ (neverLines ++ endLines))
+      lines-both outputLines (readLines ++ laterLines)
       (lines-each outputLine (take (s .n) (s .outputs)) noOutput
       (λ k h.
       let l : k < s .n = omega (arith, outputs-many) in
       subst (λ (p : OutputPoint). SolidLine (outputLine p)) (sym (getD-take (s .n) (s .outputs) k noOutput l)) (output-line k l)))
-      (lines-both readLines (neverLines ++ endLines)
+      (lines-both readLines laterLines
       (lines-each (readLine s) (take (s .r) (s .reads)) noRead
       (λ k h.
       let l : k < s .r = omega (arith, reads-many) in
       subst (λ (p : ReadPoint). SolidLine (readLine s p)) (sym (getD-take (s .r) (s .reads) k noRead l)) (read-line k l)))
+      (lines-both (restLines s ok) (neverLines ++ endLines) (lines-joined (restLine s) mostOutputs rest-line)
       (lines-both neverLines endLines
       (lines-each (neverLine s) (take (s .m) (s .constraints)) noConstraint
       (λ k h.
       let l : k < s .m = omega (arith, constraints-many) in
       subst (λ (c : Constraint). SolidLine (neverLine s c)) (sym (getD-take (s .m) (s .constraints) k noConstraint l)) (never-line (constraint s k) (masks s ok k l))))
-      ((solid-by end-word refl, tt), tt)))
+      ((solid-by end-word refl, tt), tt))))
 
   outputs-lines : length outputLines ≡ s .n
   outputs-lines = length-map (take (s .n) (s .outputs)) outputLine ∙ outputs-many
@@ -184,12 +200,17 @@ module _ (s : Set) (ok : wellFormed s ≡ true) where
   never-lines : length neverLines ≡ s .m
   never-lines = length-map (take (s .m) (s .constraints)) (neverLine s) ∙ constraints-many
 
-  lines-many : length lines ≡ s .n + s .r + s .m + 1
+  -- so many are of outputs at rest
+  abbrev rests : ℕ
+  rests = length (restLines s ok)
+
+  lines-many : length lines ≡ s .n + s .r + rests + s .m + 1
   lines-many =
       omega (
         arith,
-        length-append outputLines (readLines ++ (neverLines ++ endLines)),
-        length-append readLines (neverLines ++ endLines),
+        length-append outputLines (readLines ++ laterLines),
+        length-append readLines laterLines,
+        length-append (restLines s ok) (neverLines ++ endLines),
         length-append neverLines endLines,
         outputs-lines,
         reads-lines,
@@ -202,36 +223,51 @@ module _ (s : Set) (ok : wellFormed s ≡ true) where
   unfolding textOf
   text-lines = ap (λ (l : List (List (List ℕ))). partsAt 0x0A (linesText l)) lines-shown ∙ lines-back lines lines-solid
 
-  text-line : (k : ℕ) → k < s .n + s .r + s .m + 1 → lineAt (textOf s) k ≡ parted (getD lines k [])
+  text-line : (k : ℕ) → k < s .n + s .r + rests + s .m + 1 → lineAt (textOf s) k ≡ parted (getD lines k [])
   text-line k h = ap (λ (l : List (List ℕ)). getD l k []) text-lines ∙ line-at lines lines-solid k (omega (arith, lines-many))
 
-  text-words : (k : ℕ) → k < s .n + s .r + s .m + 1 → wordsOf (textOf s) k ≡ getD lines k []
+  text-words : (k : ℕ) → k < s .n + s .r + rests + s .m + 1 → wordsOf (textOf s) k ≡ getD lines k []
   text-words k h = ap (partsAt 0x20) (text-line k h) ∙ line-back (getD lines k []) (solid-at lines lines-solid k (omega (arith, lines-many)))
 
   -- the lines by number
   output-at : (j : ℕ) → j < s .n → getD lines j [] ≡ outputLine (outputPoint (s .outputs) j)
-  output-at j h = mapped-at outputLine (s .outputs) noOutput (s .n) (readLines ++ (neverLines ++ endLines)) j h outputs-many
+  output-at j h = mapped-at outputLine (s .outputs) noOutput (s .n) (readLines ++ laterLines) j h outputs-many
 
   read-at : (k : ℕ) → k < s .r → getD lines (s .n + k) [] ≡ readLine s (readPoint (s .reads) k)
   read-at k h =
       ap (λ (a : ℕ). getD lines (a + k) []) (sym outputs-lines)
-      ∙ getD-append-add outputLines (readLines ++ (neverLines ++ endLines)) k []
-      ∙ mapped-at (readLine s) (s .reads) noRead (s .r) (neverLines ++ endLines) k h reads-many
+      ∙ getD-append-add outputLines (readLines ++ laterLines) k []
+      ∙ mapped-at (readLine s) (s .reads) noRead (s .r) laterLines k h reads-many
 
-  later : (k : ℕ) → getD lines (s .n + s .r + k) [] ≡ getD (neverLines ++ endLines) k []
+  later : (k : ℕ) → getD lines (s .n + s .r + k) [] ≡ getD laterLines k []
   later k =
       let e : s .n + s .r + k ≡ length outputLines + (length readLines + k) = omega (arith, outputs-lines, reads-lines) in
       ap (λ (a : ℕ). getD lines a []) e
-      ∙ getD-append-add outputLines (readLines ++ (neverLines ++ endLines)) (length readLines + k) []
-      ∙ getD-append-add readLines (neverLines ++ endLines) k []
+      ∙ getD-append-add outputLines (readLines ++ laterLines) (length readLines + k) []
+      ∙ getD-append-add readLines laterLines k []
 
-  never-at : (i : ℕ) → i < s .m → getD lines (s .n + s .r + i) [] ≡ neverLine s (constraint s i)
+  rest-at : (j : ℕ) → j < rests → wordsOf (textOf s) (s .n + s .r + j) ≡ getD (restLines s ok) j []
+  rest-at j h = text-words (s .n + s .r + j) (omega arith) ∙ later j ∙ List·getD-append (restLines s ok) (neverLines ++ endLines) [] j h
+
+  -- the lines behind those of outputs at rest
+  last : (k : ℕ) → getD lines (s .n + s .r + rests + k) [] ≡ getD (neverLines ++ endLines) k []
+  last k =
+      let e : s .n + s .r + rests + k ≡ s .n + s .r + (rests + k) = omega arith in
+      ap (λ (a : ℕ). getD lines a []) e
+      ∙ later (rests + k)
+      ∙ getD-append-add (restLines s ok) (neverLines ++ endLines) k []
+
+  never-at : (i : ℕ) → i < s .m → getD lines (s .n + s .r + rests + i) [] ≡ neverLine s (constraint s i)
   unfolding constraint
-  never-at i h = later i ∙ mapped-at (neverLine s) (s .constraints) noConstraint (s .m) endLines i h constraints-many
+  never-at i h = last i ∙ mapped-at (neverLine s) (s .constraints) noConstraint (s .m) endLines i h constraints-many
 
-  end-at : getD lines (s .n + s .r + s .m) [] ≡ end-word ∷ []
+  -- the words of constraint i
+  never-shown : (i : ℕ) → i < s .m → wordsOf (textOf s) (s .n + s .r + rests + i) ≡ neverLine s (constraint s i)
+  never-shown i h = text-words (s .n + s .r + rests + i) (omega arith) ∙ never-at i h
+
+  end-at : getD lines (s .n + s .r + rests + s .m) [] ≡ end-word ∷ []
   end-at =
-      later (s .m)
+      last (s .m)
       ∙ ap (λ (a : ℕ). getD (neverLines ++ endLines) a []) (sym never-lines ∙ omega arith)
       ∙ getD-append-add neverLines endLines 0 []
 
@@ -248,11 +284,17 @@ module _ (s : Set) (ok : wellFormed s ≡ true) where
   pub text-says : TextSays s (textOf s)
   unfolding spacedWords
   text-says = record {
+    resting = rests;
     count = ap length text-lines ∙ lines-count lines ∙ omega (arith, lines-many);
-    last = text-line (s .n + s .r + s .m) (omega arith) ∙ ap parted end-at;
+    last = text-line (s .n + s .r + rests + s .m) (omega arith) ∙ ap parted end-at;
     nothing-after = ap₂ (λ (l : List (List ℕ)) (k : ℕ). getD l k []) text-lines (sym lines-many) ∙ line-behind lines;
     outputs = λ j h. text-words j (omega arith) ∙ output-at j h;
     reads = λ k h. read-shown k h (wordsOf (textOf s) (s .n + k)) (text-words (s .n + k) (omega arith) ∙ read-at k h);
-    literals = λ i h. never-words s ok i h (wordsOf (textOf s) (s .n + s .r + i)) (text-words (s .n + s .r + i) (omega arith) ∙ never-at i h);
-    constraints = λ i h. never-says s ok i h (wordsOf (textOf s) (s .n + s .r + i)) (text-words (s .n + s .r + i) (omega arith) ∙ never-at i h);
+    at-rest = λ j h. let x = rest-of s ok j h in (x .0, x .1, rest-at j h ∙ x .2);
+    rests = λ k b. let x = rest-for s ok k b in (x .0, x .1, rest-at (x .0) (x .1) ∙ x .2);
+    rising = λ i j h g p q hp hq e f.
+        let l : i < rests = omega arith in
+        rest-rising s ok i j h g p q hp hq (sym (rest-at i l) ∙ e) (sym (rest-at j g) ∙ f);
+    literals = λ i h. never-words s ok i h (wordsOf (textOf s) (s .n + s .r + rests + i)) (never-shown i h);
+    constraints = λ i h. never-says s ok i h (wordsOf (textOf s) (s .n + s .r + rests + i)) (never-shown i h);
   }

@@ -2,7 +2,7 @@
 -- Assumes nothing.
 use mathlib.Core.Path.{_≡_, refl, sym, ap, subst, _∙_}
 use mathlib.Core.Bool.{Bool, true, false, cond}
-use mathlib.Core.List.{List, [], _∷_, _++_, map, append-assoc}
+use mathlib.Core.List.{List, [], _∷_, _++_, map, append-assoc, append-nil}
 use Prim.Native.Nat.{ℕ, zero, suc, _+_, _≤_, _<_}
 use native.Mathlib.Omega.{arith}
 use lib.Dec.{eqb, ltb}
@@ -16,8 +16,8 @@ use Rattle.scan.specs.declared.set.Set.{Set}
 use Rattle.scan.specs.Set.{readPoint, outputPoint, constraint, noRead, noOutput, noConstraint}
 use Rattle.scan.specs.Shape.{wellFormed}
 use Rattle.scan.proofs.ShapeLaws.{counts, lengths}
-use Rattle.writer.specs.Write.{fieldOf, fieldsOf, readBody, outputBody, literalBody, writeOf}
-use Rattle.setfile.proofs.LoadWritten.{lastFields, laterFields, restFields, file-parts}
+use Rattle.writer.specs.Write.{fieldOf, fieldsOf, readBody, outputBody, literalBody, restBody, restField, writeOf}
+use Rattle.setfile.proofs.LoadWritten.{behindRest, behindOutputs, behindReads, behindCounts, file-parts}
 use Rattle.promise.specs.Fields.{Fields, ends, cut, field, fieldSize, fieldsFrom, inFields, isWhole, tags, bodies}
 use Rattle.promise.specs.FileSays.{bodyOfRead, bodyOfOutput, bodyOfConstraint}
 
@@ -110,10 +110,36 @@ body-at body [] (suc n) k d h few = absurd (omega arith)
 body-at body (x ∷ l) (suc n) zero d h few = refl
 body-at body (x ∷ l) (suc n) (suc k) d h few = body-at body l n k d (omega arith) (omega arith)
 
+-- the bodies of the fields of a rest word: none for 0
+unfoldable pub restBodies : ℕ → List (List ℕ)
+restBodies word = cond (eqb word 0) [] (restBody word ∷ [])
+
+-- its field, if it has one, is the fields of those
+rest-run : (word : ℕ) → restField word ≡ fieldsOf 0x06 (λ body. body) (restBodies word)
+unfolding restField fieldsOf restBodies
+rest-run word = go (eqb word 0)
+  where
+    go : (b : Bool) → cond b [] (fieldOf 0x06 (restBody word)) ≡ fieldsOf 0x06 (λ body. body) (cond b [] (restBody word ∷ []))
+    go true = refl
+    go false = sym (append-nil (fieldOf 0x06 (restBody word)))
+
+-- The field of a rest word, or none, at the front.
+told-rest : (word : ℕ) (rest ts : List ℕ) (bs : ℕ → List (List ℕ)) → Told rest ts bs
+    → Told (restField word ++ rest) (replicate (length (restBodies word)) 0x06 ++ ts) (more 0x06 (map (λ body. body) (restBodies word)) bs)
+told-rest word rest ts bs t =
+    subst (λ (l : List ℕ). Told (l ++ rest) (replicate (length (restBodies word)) 0x06 ++ ts) (more 0x06 (map (λ body. body) (restBodies word)) bs)) (sym (rest-run word))
+    (told-run 0x06 (λ body. body) (restBodies word) rest ts bs t)
+
+-- bodies as they are
+same-bodies : (l : List (List ℕ)) → map (λ body. body) l ++ [] ≡ l
+same-bodies [] = refl
+same-bodies (x ∷ l) = ap (λ (m : List (List ℕ)). x ∷ m) (same-bodies l)
+
 -- the fields of a set's file
 pub record SetFields (file : List ℕ) (s : Set) : Type 0 where
   pub whole : isWhole (inFields file) ≡ true
-  pub order : tags (inFields file) ≡ 0x01 ∷ replicate (s .r) 0x02 ++ replicate (s .n) 0x03 ++ replicate (s .m) 0x04 ++ 0x05 ∷ []
+  pub order : tags (inFields file) ≡ 0x01 ∷ replicate (s .r) 0x02 ++ replicate (s .n) 0x03 ++ replicate (length (restBodies (s .rest))) 0x06 ++ replicate (s .m) 0x04 ++ 0x05 ∷ []
+  pub rests : bodies 0x06 (inFields file) ≡ restBodies (s .rest)
   pub counts : bodies 0x01 (inFields file) ≡ (s .r ∷ s .n ∷ []) ∷ []
   pub read-body : (k : ℕ) → k < s .r → bodyOfRead file k ≡ readBody (readPoint (s .reads) k)
   pub output-body : (j : ℕ) → j < s .n → bodyOfOutput file j ≡ outputBody (outputPoint (s .outputs) j)
@@ -131,27 +157,28 @@ module _ (s : Set) (ok : wellFormed s ≡ true) where
 
   -- the tags
   abbrev tagsPut : List ℕ
-  tagsPut = 0x01 ∷ (replicate (length readsUsed) 0x02 ++ (replicate (length outputsUsed) 0x03 ++ (replicate (length constraintsUsed) 0x04 ++ (0x05 ∷ []))))
+  tagsPut = 0x01 ∷ (replicate (length readsUsed) 0x02 ++ (replicate (length outputsUsed) 0x03 ++ (replicate (length (restBodies (s .rest))) 0x06 ++ (replicate (length constraintsUsed) 0x04 ++ (0x05 ∷ [])))))
 
   -- the bodies of each tag
   abbrev bodiesPut : ℕ → List (List ℕ)
   bodiesPut =
       more 0x01 ((s .r ∷ s .n ∷ []) ∷ []) (more 0x02 (map readBody readsUsed) (more 0x03 (map outputBody outputsUsed)
-      (more 0x04 (map literalBody constraintsUsed) (more 0x05 ([] ∷ []) (λ wanted. [])))))
+      (more 0x06 (map (λ body. body) (restBodies (s .rest))) (more 0x04 (map literalBody constraintsUsed) (more 0x05 ([] ∷ []) (λ wanted. []))))))
 
   -- The file is its fields one after the other.
   file-told : Told (writeOf s) tagsPut bodiesPut
   file-told =
       subst (λ (file : List ℕ). Told file tagsPut bodiesPut) (sym (file-parts s))
-      (told-one 0x01 (s .r ∷ s .n ∷ []) (restFields s) _ _ (told-run 0x02 readBody readsUsed (laterFields s) _ _ (told-run 0x03 outputBody outputsUsed (lastFields s) _ _
-      (told-run 0x04 literalBody constraintsUsed (fieldOf 0x05 []) _ _ (told-one 0x05 [] [] [] (λ wanted. []) told-none)))))
+      (told-one 0x01 (s .r ∷ s .n ∷ []) (behindCounts s) _ _ (told-run 0x02 readBody readsUsed (behindReads s) _ _ (told-run 0x03 outputBody outputsUsed (behindOutputs s) _ _
+      (told-rest (s .rest) (behindRest s) _ _
+      (told-run 0x04 literalBody constraintsUsed (fieldOf 0x05 []) _ _ (told-one 0x05 [] [] [] (λ wanted. []) told-none))))))
 
   abbrev fieldsTold : (isWhole (inFields (writeOf s)) ≡ true) × (tags (inFields (writeOf s)) ≡ tagsPut) × ((wanted : ℕ) → bodies wanted (inFields (writeOf s)) ≡ bodiesPut wanted)
   unfolding inFields
   fieldsTold = file-told (suc (length (writeOf s))) 0 (omega arith)
 
   -- the counts are the numbers of elements
-  tags-put : tagsPut ≡ 0x01 ∷ replicate (s .r) 0x02 ++ replicate (s .n) 0x03 ++ replicate (s .m) 0x04 ++ 0x05 ∷ []
+  tags-put : tagsPut ≡ 0x01 ∷ replicate (s .r) 0x02 ++ replicate (s .n) 0x03 ++ replicate (length (restBodies (s .rest))) 0x06 ++ replicate (s .m) 0x04 ++ 0x05 ∷ []
   tags-put =
       let c = counts s ok in
       let l = lengths s ok in
@@ -171,6 +198,7 @@ module _ (s : Set) (ok : wellFormed s ≡ true) where
       record {
         whole = f .0;
         order = f .1 ∙ tags-put;
+        rests = f .2 0x06 ∙ same-bodies (restBodies (s .rest));
         counts = f .2 0x01;
         read-body = λ k h. ap (λ (x : List (List ℕ)). getD x k []) (f .2 0x02) ∙ body-at readBody (s .reads) (s .r) k noRead h (omega (arith, c .r-le, l .0));
         output-body = λ k h. ap (λ (x : List (List ℕ)). getD x k []) (f .2 0x03) ∙ body-at outputBody (s .outputs) (s .n) k noOutput h (omega (arith, c .n-le, l .1));

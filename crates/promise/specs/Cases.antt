@@ -1,5 +1,5 @@
 -- Worked cases: the starred ones of document 01's "Tried by hand", the edge case as change request K2 has it, those for what they leave open, some of
--- them from the bytes of a file, and those of change request K5.
+-- them from the bytes of a file, and those of change requests K5 and K6.
 -- Assumes nothing.
 use Prim.Native.Nat.{ℕ, _^_}
 use mathlib.Core.Path.{_≡_}
@@ -12,7 +12,7 @@ use Rattle.scan.specs.declared.set.ReadPoint.{ReadPoint}
 use Rattle.scan.specs.declared.set.Constraint.{Constraint}
 use Rattle.scan.specs.declared.set.Set.{Set}
 use Rattle.scan.specs.declared.set.State.{State}
-use Rattle.scan.specs.Set.{zeroSet, stateOf, freshState}
+use Rattle.scan.specs.Set.{zeroSet, withRest, stateOf, freshState}
 use Rattle.scan.specs.Holds.{F0, F1, unheldCount}
 use Rattle.shape.specs.Finding.{findOf}
 use Rattle.shape.specs.Told.{findTold}
@@ -50,6 +50,8 @@ pub data Case : Type 0 where
   runs : List ℕ → List Call → List (List ℕ) → Case
   -- the text of the set is these bytes
   texts : Set → List ℕ → Case
+  -- these bytes are loaded, and the rest word of their set is this
+  rests : List ℕ → ℕ → Case
 
 -- scratch enough
 abbrev pub enough : Set → ℕ
@@ -71,6 +73,7 @@ answered (finds s bytes told) = findTold (findOf s bytes) ∷ []
 answered (loads file told) = loadTold (loadOf file .answer) ∷ []
 answered (runs file calls told) = loadTold (loadOf file .answer) ∷ started (loadOf file .set) calls
 answered (texts s text) = textOf s ∷ []
+answered (rests file word) = loadTold (loadOf file .answer) ∷ (loadOf file .set .rest ∷ []) ∷ []
 
 -- what is to be answered
 abbrev pub expected : Case → List (List ℕ)
@@ -84,6 +87,7 @@ expected (finds s bytes told) = told ∷ []
 expected (loads file told) = told ∷ []
 expected (runs file calls told) = (0 ∷ []) ∷ (0 ∷ []) ∷ told
 expected (texts s text) = text ∷ []
+expected (rests file word) = (0 ∷ []) ∷ (word ∷ []) ∷ []
 
 -- every case of a list is answered as it is to be
 abbrev pub AllAnswered : List Case → Type 0
@@ -250,6 +254,78 @@ orderCases =
     ∷ reordered P (0 ∷ []) (0 ∷ [])
     ∷ []
 
+-- ---- change request K6
+
+-- a file up to its outputs, a field to a line: b, the past of output B; outputs A and B
+abbrev pub fileUpTo : List ℕ
+fileUpTo =
+    0x01 ∷ 0x00 ∷ 0x02 ∷ 0x01 ∷ 0x02
+    ∷ 0x02 ∷ 0x00 ∷ 0x03 ∷ 0x01 ∷ 0x01 ∷ 0x62
+    ∷ 0x03 ∷ 0x00 ∷ 0x01 ∷ 0x41
+    ∷ 0x03 ∷ 0x00 ∷ 0x01 ∷ 0x42
+    ∷ []
+
+-- its constraint: "b and A"
+abbrev pub constraintField : List ℕ
+constraintField = 0x04 ∷ 0x00 ∷ 0x04 ∷ 0x00 ∷ 0x00 ∷ 0x40 ∷ 0x00 ∷ []
+
+-- its end
+abbrev pub endField : List ℕ
+endField = 0x05 ∷ 0x00 ∷ 0x00 ∷ []
+
+-- a field of the rest word's tag, with these two bytes
+abbrev pub restBytes : ℕ → ℕ → List ℕ
+restBytes high low = 0x06 ∷ 0x00 ∷ 0x02 ∷ high ∷ low ∷ []
+
+-- the file with these bytes between its outputs and its constraint
+abbrev pub fileWith : List ℕ → List ℕ
+fileWith bytes = fileUpTo ++ bytes ++ constraintField ++ endField
+
+-- twelve outputs A to L, these bytes, and the end
+abbrev pub fileOfTwelve : List ℕ → List ℕ
+fileOfTwelve bytes =
+    0x01 ∷ 0x00 ∷ 0x02 ∷ 0x00 ∷ 0x0C
+    ∷ 0x03 ∷ 0x00 ∷ 0x01 ∷ 0x41 ∷ 0x03 ∷ 0x00 ∷ 0x01 ∷ 0x42 ∷ 0x03 ∷ 0x00 ∷ 0x01 ∷ 0x43 ∷ 0x03 ∷ 0x00 ∷ 0x01 ∷ 0x44
+    ∷ 0x03 ∷ 0x00 ∷ 0x01 ∷ 0x45 ∷ 0x03 ∷ 0x00 ∷ 0x01 ∷ 0x46 ∷ 0x03 ∷ 0x00 ∷ 0x01 ∷ 0x47 ∷ 0x03 ∷ 0x00 ∷ 0x01 ∷ 0x48
+    ∷ 0x03 ∷ 0x00 ∷ 0x01 ∷ 0x49 ∷ 0x03 ∷ 0x00 ∷ 0x01 ∷ 0x4A ∷ 0x03 ∷ 0x00 ∷ 0x01 ∷ 0x4B ∷ 0x03 ∷ 0x00 ∷ 0x01 ∷ 0x4C
+    ∷ (bytes ++ endField)
+
+-- drives that rest on
+abbrev pub restCases : List Case
+restCases =
+    -- B rests on: the first scan reads its past as on, the second as it was sent. Without the field, and where A rests on, it is off
+    runs (fileWith (restBytes 0 2)) (call 0 1 ∷ call 0 1 ∷ []) (sent 0 0 ∷ sent 1 0 ∷ [])
+    ∷ runs (fileWith []) (call 0 1 ∷ call 0 1 ∷ []) (sent 1 0 ∷ sent 1 0 ∷ [])
+    ∷ runs (fileWith (restBytes 0 1)) (call 0 1 ∷ call 0 1 ∷ []) (sent 1 0 ∷ sent 1 0 ∷ [])
+    -- refused scans are not the first
+    ∷ runs (fileWith (restBytes 0 2)) (call 0 4 ∷ call 1 1 ∷ call 0 1 ∷ call 0 1 ∷ []) (no 32 ∷ no 31 ∷ sent 0 0 ∷ sent 1 0 ∷ [])
+    -- a rest word that is not safe is good: "A and B", and both rest on
+    ∷ scans (withRest equalRanks 3) (call 0 3 ∷ []) (sent 0 1 ∷ [])
+    -- a rest word out of width makes a set that is not well formed
+    ∷ judged (withRest P 4) 4 (no 20)
+    ∷ judged (withRest P 3) 4 (no 0)
+    -- 54: 0; a bit outside n; the two bytes exchanged
+    ∷ loads (fileWith (restBytes 0 0)) (54 ∷ 19 ∷ [])
+    ∷ loads (fileWith (restBytes 0 4)) (54 ∷ 19 ∷ [])
+    ∷ loads (fileWith (restBytes 2 0)) (54 ∷ 19 ∷ [])
+    -- 4, before 54: one byte, three bytes
+    ∷ loads (fileWith (0x06 ∷ 0x00 ∷ 0x01 ∷ 0x00 ∷ [])) (4 ∷ 19 ∷ [])
+    ∷ loads (fileWith (0x06 ∷ 0x00 ∷ 0x03 ∷ 0x00 ∷ 0x00 ∷ 0x00 ∷ [])) (4 ∷ 19 ∷ [])
+    -- 1: the file ends in its header, in its body, and behind it
+    ∷ loads (fileUpTo ++ take 2 (restBytes 0 2)) (1 ∷ 19 ∷ [])
+    ∷ loads (fileUpTo ++ take 4 (restBytes 0 2)) (1 ∷ 19 ∷ [])
+    ∷ loads (fileUpTo ++ restBytes 0 2) (1 ∷ 24 ∷ [])
+    -- 2: a second one; one behind the constraint; one before an output
+    ∷ loads (fileWith (restBytes 0 2 ++ restBytes 0 2)) (2 ∷ 24 ∷ [])
+    ∷ loads (fileUpTo ++ constraintField ++ restBytes 0 2 ++ endField) (2 ∷ 26 ∷ [])
+    ∷ loads (take 15 fileUpTo ++ restBytes 0 2 ++ endField) (2 ∷ 15 ∷ [])
+    -- twelve outputs: all bits, the highest alone, and one bit too high; and no constraint behind it
+    ∷ rests (fileOfTwelve (restBytes 0x0F 0xFF)) 4095
+    ∷ rests (fileOfTwelve (restBytes 0x08 0x00)) 2048
+    ∷ rests (fileOfTwelve []) 0
+    ∷ loads (fileOfTwelve (restBytes 0x10 0x00)) (54 ∷ 53 ∷ [])
+    ∷ []
+
 -- scans of states that no start gave
 abbrev pub scanCases : List Case
 scanCases =
@@ -327,6 +403,18 @@ textOfKinds =
     ∷ 0x65 ∷ 0x6E ∷ 0x64 ∷ 0x0A
     ∷ []
 
--- texts, the second of a set from the bytes of its file
+-- the text of the set of `fileWith` where both outputs rest on: output A; output B; past b of B; rest A; rest B; never b on and A on; end
+abbrev pub textOfRest : List ℕ
+textOfRest =
+    0x6F ∷ 0x75 ∷ 0x74 ∷ 0x70 ∷ 0x75 ∷ 0x74 ∷ 0x20 ∷ 0x41 ∷ 0x0A
+    ∷ 0x6F ∷ 0x75 ∷ 0x74 ∷ 0x70 ∷ 0x75 ∷ 0x74 ∷ 0x20 ∷ 0x42 ∷ 0x0A
+    ∷ 0x70 ∷ 0x61 ∷ 0x73 ∷ 0x74 ∷ 0x20 ∷ 0x62 ∷ 0x20 ∷ 0x6F ∷ 0x66 ∷ 0x20 ∷ 0x42 ∷ 0x0A
+    ∷ 0x72 ∷ 0x65 ∷ 0x73 ∷ 0x74 ∷ 0x20 ∷ 0x41 ∷ 0x0A
+    ∷ 0x72 ∷ 0x65 ∷ 0x73 ∷ 0x74 ∷ 0x20 ∷ 0x42 ∷ 0x0A
+    ∷ 0x6E ∷ 0x65 ∷ 0x76 ∷ 0x65 ∷ 0x72 ∷ 0x20 ∷ 0x62 ∷ 0x20 ∷ 0x6F ∷ 0x6E ∷ 0x20 ∷ 0x61 ∷ 0x6E ∷ 0x64 ∷ 0x20 ∷ 0x41 ∷ 0x20 ∷ 0x6F ∷ 0x6E ∷ 0x0A
+    ∷ 0x65 ∷ 0x6E ∷ 0x64 ∷ 0x0A
+    ∷ []
+
+-- texts, two of them of sets from the bytes of their files
 abbrev pub textCases : List Case
-textCases = texts P textP ∷ texts (loadOf fileOfKinds .set) textOfKinds ∷ []
+textCases = texts P textP ∷ texts (loadOf fileOfKinds .set) textOfKinds ∷ texts (loadOf (fileWith (restBytes 0 3)) .set) textOfRest ∷ []

@@ -2,7 +2,7 @@
 -- lower number first, with the offset that its refusal gives. It is told over the fields of the file, with the kinds and the names so far, and
 -- shares no definition with the loader. What stands behind a test that fails does not matter.
 -- Assumes nothing.
-use Prim.Native.Nat.{ℕ, zero, suc, _+_, _/_, _%_}
+use Prim.Native.Nat.{ℕ, zero, suc, _+_, _*_, _/_, _%_, _^_}
 use mathlib.Core.Bool.{Bool, true, false, cond, not, _&&_, _||_}
 use mathlib.Core.List.{List, [], _∷_, _++_}
 use lib.Dec.{ltb, leb, eqb}
@@ -28,7 +28,8 @@ lengthFits tag len =
     || ((eqb tag 0x02 && within 3 10 len)
     || ((eqb tag 0x03 && within 1 8 len)
     || ((eqb tag 0x04 && (within 2 48 len && eqb (len % 2) 0))
-    || (eqb tag 0x05 && eqb len 0))))
+    || ((eqb tag 0x05 && eqb len 0)
+    || (eqb tag 0x06 && eqb len 2)))))
 
 -- 1 header or body runs past the end; 2 tag not due; 3 a 65th constraint; 4 length not in the table
 unfoldable pub headTests : ℕ → Bool → Bool → ℕ → List ℕ → List Test
@@ -71,6 +72,10 @@ unfoldable pub readTests : ℕ → ℕ → List ℕ → List (List ℕ) → List
 readTests at n kinds names body =
     test 6 at (not (kindFits n kinds (getD body 0 0) (getD body 1 0))) ∷ nameTests at names (drop 2 body)
 
+-- the two bytes of a rest word, the high one first, say a number that is not 0 and has bits at the n outputs only
+unfoldable pub restFits : ℕ → List ℕ → Bool
+restFits n body = let word = 256 * getD body 0 0 + getD body 1 0 in ltb 0 word && ltb word (2 ^ n)
+
 -- a literal's first byte has bit 6
 abbrev pub isOutputByte : ℕ → Bool
 isOutputByte b = eqb (b / 64 % 2) 1
@@ -103,7 +108,7 @@ endTests (ends at) = []
 endTests (cut at) = test 12 at true ∷ []
 endTests (field at tag body rest) = test 12 at true ∷ []
 
--- ---- field after field: one 0x01; r of 0x02; n of 0x03; m of 0x04; one 0x05; nothing after
+-- ---- field after field: one 0x01; r of 0x02; n of 0x03; at most one 0x06; m of 0x04; one 0x05; nothing after
 
 -- behind m constraints: one more, or the end
 unfoldable pub constraintsTests : ℕ → ℕ → ℕ → Fields → List Test
@@ -113,9 +118,18 @@ constraintsTests r n m (field at tag body rest) =
     let more = bodyTests at r n body ++ constraintsTests r n (m + 1) rest in
     headTests at (eqb tag 0x04 || eqb tag 0x05) (eqb tag 0x04 && leb 64 m) tag body ++ cond (eqb tag 0x05) (endTests rest) more
 
--- `left` outputs, behind points of these names, and then the constraints
+-- behind the outputs: the rest word, 54 where it is 0 or has bits outside n, if a field of its tag stands here; and then the constraints
+unfoldable pub restTests : ℕ → ℕ → Fields → List Test
+restTests r n (ends at) = missing at
+restTests r n (cut at) = missing at
+restTests r n (field at tag body rest) =
+    let given = headTests at true false tag body ++ (test 54 at (not (restFits n body)) ∷ constraintsTests r n 0 rest) in
+    let none = constraintsTests r n 0 (field at tag body rest) in
+    cond (eqb tag 0x06) given none
+
+-- `left` outputs, behind points of these names, and then the rest word
 unfoldable pub outputsTests : ℕ → ℕ → ℕ → List (List ℕ) → Fields → List Test
-outputsTests zero r n names fields = constraintsTests r n 0 fields
+outputsTests zero r n names fields = restTests r n fields
 outputsTests (suc left) r n names (ends at) = missing at
 outputsTests (suc left) r n names (cut at) = missing at
 outputsTests (suc left) r n names (field at tag body rest) =

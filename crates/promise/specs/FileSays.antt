@@ -3,7 +3,7 @@
 use mathlib.Core.Path.{_≡_}
 use mathlib.Core.Bool.{true}
 use mathlib.Core.List.{List, [], _∷_, _++_}
-use mathlib.Core.Logic.{_↔_}
+use mathlib.Core.Logic.{_↔_, _⊎_}
 use Prim.Native.Nat.{ℕ, _+_, _*_, _%_, _<_}
 use lib.ListN.{length, getD, drop, replicate}
 use Rattle.scan.specs.declared.set.Kind.{Kind}
@@ -37,6 +37,13 @@ abbrev pub KindSays : Kind → ℕ → ℕ → Type 0
 KindSays Sensor number index = (number ≡ 0) × (index ≡ 0)
 KindSays (PastOutput i) number index = (number ≡ 1) × (index ≡ i)
 KindSays (PastSensor i) number index = (number ≡ 2) × (index ≡ i)
+
+-- ---- the rest word
+
+-- no 0x06 field, and the rest word is 0; or one, whose two bytes, the high one first, are the rest word, and it is not 0
+abbrev pub RestSays : List (List ℕ) → ℕ → Type 0
+RestSays rests word =
+    ((rests ≡ []) × (word ≡ 0)) ⊎ ((high : ℕ) × (low : ℕ) × (rests ≡ (high ∷ low ∷ []) ∷ []) × (word ≡ 256 * high + low) × (0 < word))
 
 -- ---- literals: two bytes each, of which the first says the literal and the second is the rank
 
@@ -80,9 +87,10 @@ pub record Guards (file : List ℕ) (s : Set) (b : ℕ) : Type 0 where
 
 -- A file of bytes that loads, and its set s.
 pub record FileSays (file : List ℕ) (s : Set) : Type 0 where
-  -- one 0x01; r of 0x02; n of 0x03; m of 0x04; one 0x05; nothing after
+  -- one 0x01; r of 0x02; n of 0x03; those of 0x06; m of 0x04; one 0x05; nothing after
   pub whole : isWhole (inFields file) ≡ true
-  pub order : tags (inFields file) ≡ 0x01 ∷ replicate (s .r) 0x02 ++ replicate (s .n) 0x03 ++ replicate (s .m) 0x04 ++ 0x05 ∷ []
+  pub order : tags (inFields file)
+      ≡ 0x01 ∷ replicate (s .r) 0x02 ++ replicate (s .n) 0x03 ++ replicate (length (bodies 0x06 (inFields file))) 0x06 ++ replicate (s .m) 0x04 ++ 0x05 ∷ []
   -- the body of 0x01 is r, n
   pub counts : bodies 0x01 (inFields file) ≡ (s .r ∷ s .n ∷ []) ∷ []
   -- the body of 0x02 is kind, index, name
@@ -90,6 +98,10 @@ pub record FileSays (file : List ℕ) (s : Set) : Type 0 where
   pub read-names : (k : ℕ) → k < s .r → readName s k ≡ drop 2 (bodyOfRead file k)
   -- the body of 0x03 is the name
   pub output-names : (j : ℕ) → j < s .n → outputName s j ≡ bodyOfOutput file j
+  -- the body of 0x06 is the rest word
+  pub rest : RestSays (bodies 0x06 (inFields file)) (s .rest)
+  -- by name: an output that rests on is the one that finding gives for the name bytes of the field with its number
+  pub rest-by-name : (k : ℕ) → Bit k (s .rest) → findTold (findOf s (bodyOfOutput file k)) ≡ 0 ∷ 1 ∷ k ∷ []
   -- constraint i is true at (w, v) exactly when every literal of the i-th 0x04 field is
   pub constraints : (i : ℕ) → i < s .m → (w v : ℕ)
       → TrueAt s w v i ↔ ((j : ℕ) → HasLiteral (bodyOfConstraint file i) j → LiteralTrue (literalByte (bodyOfConstraint file i) j) w v)

@@ -11,6 +11,7 @@ pub mod Meanings
 pub mod Scans
 pub mod NeverTold
 pub mod PowerUp
+pub mod RestWord
 pub mod OneWord
 pub mod Promise
 pub mod Cases

@@ -119,7 +119,7 @@ pub record SameButLoneRank (c d : Constraint) : Type 0 where
   pub out-negated : c .«out_negated» ≡ d .«out_negated»
   pub ranks : Combined c → c .ranks ≡ d .ranks
 
--- two sets that differ at most in names and in the ranks of simple constraints
+-- two sets that differ at most in names, in rest words and in the ranks of simple constraints
 pub record SameButLoneRanks (s t : Set) : Type 0 where
   pub r : s .r ≡ t .r
   pub n : s .n ≡ t .n

@@ -4,7 +4,7 @@
 -- `findTold` give document 01's number of an answer, 0 for one that is no refusal, with its values.
 -- What the demands say of these is said in document 01's own terms, in bits, bytes and numbers (specs/Terms, Allowed, Verdicts, Scans, Column); where
 -- they name a definition that the code meets too (`after`, `vectorDue`, `passesDue`, `wordOf`, `readAfter`), specs/Meanings and specs/Scans say what it
--- is; specs/PowerUp has change request K2, specs/OneGroup K5; and specs/FileSays says what stands in a file.
+-- is; specs/PowerUp has change request K2, specs/OneGroup K5, specs/RestWord K6; and specs/FileSays says what stands in a file.
 -- Every call ends: a function of Rattle that is proved returns.
 -- Assumes nothing.
 use mathlib.Core.Path.{_≡_}
@@ -44,6 +44,7 @@ use Rattle.promise.specs.OneGroup.{OneGroup}
 use Rattle.promise.specs.Scans.{SendsDue, EveryRight, StateOfList}
 use Rattle.promise.specs.NeverTold.{NeverTold}
 use Rattle.promise.specs.PowerUp.{PowerUp}
+use Rattle.promise.specs.RestWord.{RestWord}
 use Rattle.promise.specs.OneWord.{ByActive}
 
 -- ---- demand 1: what is turned down, by which number, and what is left as it was
@@ -167,8 +168,9 @@ pub record ExactVerdict (s : Set) (room : ℕ) : Type 0 where
 pub record ExactStart (s : Set) (room : ℕ) : Type 0 where
   -- it says what the verdict says
   pub says : startOf s room .verdict ≡ judgeOf s room
-  -- where the set is accepted, it gives a state of the set that was judged, with both pasts 0, which says that no scan was accepted
-  pub gives : verdictTold (judgeOf s room) ≡ 0 ∷ [] → startOf s room .state ≡ stateWith s 0 0 false
+  -- where the set is accepted, it gives a state of the set that was judged, with its rest word, safe or not, as the past output word, and past sensor
+  -- word 0, which says that no scan was accepted
+  pub gives : verdictTold (judgeOf s room) ≡ 0 ∷ [] → startOf s room .state ≡ stateWith s (s .rest) 0 false
   -- where it is not, the state with every field zero
   pub refuses : verdictTold (judgeOf s room) ≢ 0 ∷ [] → startOf s room .state ≡ allZeroState
 
@@ -206,6 +208,8 @@ pub record Promise : Type 0 where
   pub reads : (st : State) (present : ℕ) → ReadsMean st present
   -- no rising edge on power-up: the mark of a state, and the scans until one is accepted
   pub power-up : PowerUp
+  -- drives that rest on: what reads a set's rest word, and what does not
+  pub rest-word : RestWord
   -- holds looked up once for a word: judging and walking by the active constraints, and no read word
   pub by-active : (s : Set) (w : ℕ) → wellFormed s ≡ true → ByActive s w
   -- a name byte is 0x21 to 0x7E

@@ -53,12 +53,12 @@ abbrev pub dueAfter : Set → List Call → Call → ℕ
 dueAfter s before c = vectorDue s (readAfter s before c) (c .request)
 
 -- The read word of a call in a list: its own sensor word, and at a past point the bit that its index names in the vector due, or in the sensor
--- word, of the last earlier call whose words are allowed; where there is none, a start's past output word, which is 0, and for a past sensor the
--- call's own sensor word: it reads as the sensor does now.
+-- word, of the last earlier call whose words are allowed; where there is none, a start's past output word, which is the set's rest word, and for a
+-- past sensor the call's own sensor word: it reads as the sensor does now.
 pub record ReadsOfList (s : Set) (before : List Call) (c : Call) : Type 0 where
   pub last : (b : Call) (earlier : List Call) → LastAllowed s before b earlier → (k : ℕ) → k < s .r
       → Bit k (readAfter s before c) ↔ BitRead (kind s k) (dueAfter s earlier b) (b .sensor) (c .sensor) k
-  pub none : NoneAllowed s before → (k : ℕ) → k < s .r → Bit k (readAfter s before c) ↔ BitRead (kind s k) 0 (c .sensor) (c .sensor) k
+  pub none : NoneAllowed s before → (k : ℕ) → k < s .r → Bit k (readAfter s before c) ↔ BitRead (kind s k) (s .rest) (c .sensor) (c .sensor) k
   pub above : (k : ℕ) → s .r ≤ k → ¬ Bit k (readAfter s before c)
 
 -- ---- a list of scans from a start
@@ -81,4 +81,4 @@ EveryRight s before (c ∷ calls) (a ∷ answers) = RightScan s before c a × Ev
 -- where there is none
 pub record StateOfList (s : Set) (before : List Call) (st : State) : Type 0 where
   pub last : (b : Call) (earlier : List Call) → LastAllowed s before b earlier → st ≡ stateWith s (dueAfter s earlier b) (b .sensor) true
-  pub none : NoneAllowed s before → st ≡ stateWith s 0 0 false
+  pub none : NoneAllowed s before → st ≡ stateWith s (s .rest) 0 false

@@ -64,6 +64,10 @@ pastWord = 0x70 ∷ 0x61 ∷ 0x73 ∷ 0x74 ∷ []
 abbrev pub ofWord : List ℕ
 ofWord = 0x6F ∷ 0x66 ∷ []
 
+-- rest
+abbrev pub restWord : List ℕ
+restWord = 0x72 ∷ 0x65 ∷ 0x73 ∷ 0x74 ∷ []
+
 -- never
 abbrev pub neverWord : List ℕ
 neverWord = 0x6E ∷ 0x65 ∷ 0x76 ∷ 0x65 ∷ 0x72 ∷ []
@@ -95,6 +99,12 @@ abbrev pub ReadShown : Set → ℕ → Kind → List (List ℕ) → Type 0
 ReadShown s k Sensor words = words ≡ sensorWord ∷ readName s k ∷ []
 ReadShown s k (PastOutput i) words = words ≡ pastWord ∷ readName s k ∷ ofWord ∷ outputName s i ∷ []
 ReadShown s k (PastSensor i) words = words ≡ pastWord ∷ readName s k ∷ ofWord ∷ readName s i ∷ []
+
+-- ---- outputs at rest
+
+-- `rest` and the name of output k
+abbrev pub RestShown : Set → ℕ → List (List ℕ) → Type 0
+RestShown s k words = words ≡ restWord ∷ outputName s k ∷ []
 
 -- ---- constraints
 
@@ -195,17 +205,25 @@ pub record NeverSays (s : Set) (i : ℕ) (line : List Shown) : Type 0 where
 
 -- A well-formed set s, and its text.
 pub record TextSays (s : Set) (text : List ℕ) : Type 0 where
-  -- n lines of outputs, r of read points, m of constraints, and `end`; nothing stands behind its LF
-  pub count : length (linesOf text) ≡ s .n + s .r + s .m + 2
-  pub last : lineAt text (s .n + s .r + s .m) ≡ endWord
-  pub nothing-after : lineAt text (s .n + s .r + s .m + 1) ≡ []
+  -- so many lines are of outputs at rest
+  pub resting : ℕ
+  -- n lines of outputs, r of read points, those of outputs at rest, m of constraints, and `end`; nothing stands behind its LF
+  pub count : length (linesOf text) ≡ s .n + s .r + resting + s .m + 2
+  pub last : lineAt text (s .n + s .r + resting + s .m) ≡ endWord
+  pub nothing-after : lineAt text (s .n + s .r + resting + s .m + 1) ≡ []
   -- line j is `output` and the name of output j, to the byte
   pub outputs : (j : ℕ) → j < s .n → wordsOf text j ≡ outputWord ∷ outputName s j ∷ []
   -- then the read points by number, each with its kind
   pub reads : (k : ℕ) → k < s .r → ReadShown s k (kind s k) (wordsOf text (s .n + k))
+  -- then a line for each output whose bit is set in the rest word, `rest` and its name, and no others; each has one
+  pub at-rest : (j : ℕ) → j < resting → (k : ℕ) × Bit k (s .rest) × RestShown s k (wordsOf text (s .n + s .r + j))
+  pub rests : (k : ℕ) → Bit k (s .rest) → (j : ℕ) × (j < resting) × RestShown s k (wordsOf text (s .n + s .r + j))
+  -- by number: of two such lines the later is of the higher output
+  pub rising : (i j : ℕ) → i < j → j < resting → (p q : ℕ) → p < s .n → q < s .n
+      → RestShown s p (wordsOf text (s .n + s .r + i)) → RestShown s q (wordsOf text (s .n + s .r + j)) → p < q
   -- then the constraints by number: the words of their lines are literals, and nothing else
-  pub literals : (i : ℕ) → i < s .m → wordsOf text (s .n + s .r + i) ≡ asWords (literalsOf text (s .n + s .r + i))
-  pub constraints : (i : ℕ) → i < s .m → NeverSays s i (literalsOf text (s .n + s .r + i))
+  pub literals : (i : ℕ) → i < s .m → wordsOf text (s .n + s .r + resting + i) ≡ asWords (literalsOf text (s .n + s .r + resting + i))
+  pub constraints : (i : ℕ) → i < s .m → NeverSays s i (literalsOf text (s .n + s .r + resting + i))
 
 -- ---- putting the text of any set into any buffer
 

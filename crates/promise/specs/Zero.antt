@@ -22,12 +22,13 @@ allZeroOutput = record { name = replicate 8 0 }
 abbrev pub allZeroConstraint : Constraint
 allZeroConstraint = record { «read_plain» = 0; «read_negated» = 0; «out_plain» = 0; «out_negated» = 0; ranks = replicate 12 0 }
 
--- no read points, outputs or constraints, and zeros in every place
+-- no read points, outputs or constraints, rest word 0, and zeros in every place
 abbrev pub allZeroSet : Set
 allZeroSet = record {
   r = 0;
   n = 0;
   m = 0;
+  rest = 0;
   reads = replicate 16 allZeroRead;
   outputs = replicate 12 allZeroOutput;
   constraints = replicate 64 allZeroConstraint;

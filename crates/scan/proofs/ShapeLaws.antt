@@ -115,6 +115,11 @@ module _ (s : Set) (ok : wellFormed s ≡ true) where
       let t = every-at (lengthTests s) (every-at (setTests s) ok 1) in
       (eqb-true _ _ (t 0), eqb-true _ _ (t 1), eqb-true _ _ (t 2))
 
+  -- the rest word has bits at outputs only
+  pub rest-lt : s .rest < 2 ^ s .n
+  unfolding wellFormed setTests
+  rest-lt = ltb-true (s .rest) (2 ^ s .n) (every-at (setTests s) ok 5)
+
   -- a constraint in use passes its tests
   pub constraint-ok : (i : ℕ) → i < s .m → every (constraintTests (s .r) (s .n) (constraint s i)) ≡ true
   unfolding wellFormed setTests constraintPlace

@@ -63,6 +63,7 @@ zeroSet = record {
   r = 0;
   n = 0;
   m = 0;
+  rest = 0;
   reads = replicate mostReads zeroRead;
   outputs = replicate mostOutputs zeroOutput;
   constraints = replicate mostConstraints zeroConstraint;
@@ -72,19 +73,23 @@ zeroSet = record {
 
 -- the set with the counts r, n and m
 abbrev pub withCounts : Set → ℕ → ℕ → ℕ → Set
-withCounts s r n m = record { r = r; n = n; m = m; reads = s .reads; outputs = s .outputs; constraints = s .constraints }
+withCounts s r n m = record { r = r; n = n; m = m; rest = s .rest; reads = s .reads; outputs = s .outputs; constraints = s .constraints }
 
 -- the set with these read points
 abbrev pub withReads : Set → List ReadPoint → Set
-withReads s reads = record { r = s .r; n = s .n; m = s .m; reads = reads; outputs = s .outputs; constraints = s .constraints }
+withReads s reads = record { r = s .r; n = s .n; m = s .m; rest = s .rest; reads = reads; outputs = s .outputs; constraints = s .constraints }
 
 -- the set with these outputs
 abbrev pub withOutputs : Set → List OutputPoint → Set
-withOutputs s outputs = record { r = s .r; n = s .n; m = s .m; reads = s .reads; outputs = outputs; constraints = s .constraints }
+withOutputs s outputs = record { r = s .r; n = s .n; m = s .m; rest = s .rest; reads = s .reads; outputs = outputs; constraints = s .constraints }
 
 -- the set with these constraints
 abbrev pub withConstraints : Set → List Constraint → Set
-withConstraints s constraints = record { r = s .r; n = s .n; m = s .m; reads = s .reads; outputs = s .outputs; constraints = constraints }
+withConstraints s constraints = record { r = s .r; n = s .n; m = s .m; rest = s .rest; reads = s .reads; outputs = s .outputs; constraints = constraints }
+
+-- the set with this rest word
+abbrev pub withRest : Set → ℕ → Set
+withRest s rest = record { r = s .r; n = s .n; m = s .m; rest = rest; reads = s .reads; outputs = s .outputs; constraints = s .constraints }
 
 -- ---- states
 
@@ -92,13 +97,13 @@ withConstraints s constraints = record { r = s .r; n = s .n; m = s .m; reads = s
 abbrev pub stateOf : Set → ℕ → ℕ → Bool → State
 stateOf s output sensor accepted = record { set = s; «past_output» = output; «past_sensor» = sensor; accepted = accepted }
 
--- the state that a start of the set gives: both pasts 0, and no scan accepted yet
+-- the state that a start of the set gives: its rest word as the past output word, past sensor word 0, and no scan accepted yet
 abbrev pub freshState : Set → State
-freshState s = stateOf s 0 0 false
+freshState s = stateOf s (s .rest) 0 false
 
 -- the state with every field zero, which a refused start carries
 abbrev pub zeroState : State
-zeroState = freshState zeroSet
+zeroState = stateOf zeroSet 0 0 false
 
 -- ---- the parts by number; past the end of a list stands what the machine reads there: zeros, the first variant, no elements
 

@@ -110,7 +110,7 @@ constraintPlace s i =
 
 -- ---- the set
 
--- the tests of a whole set
+-- the tests of a whole set; the last is of its rest word, which has bits at outputs only
 unfoldable pub setTests : Set → List Bool
 setTests s =
     every (countTests (s .r) (s .n) (s .m))
@@ -118,6 +118,7 @@ setTests s =
     ∷ all mostReads (readPlace (s .reads) (s .r) (s .n))
     ∷ all mostOutputs (outputPlace (s .reads) (s .r) (s .outputs) (s .n))
     ∷ all mostConstraints (constraintPlace s)
+    ∷ ltb (s .rest) (2 ^ s .n)
     ∷ []
 
 -- document 01's "well formed"

@@ -38,11 +38,13 @@ pub struct Constraint {
     pub ranks: [u8; MOST_OUTPUTS],
 }
 
-// r read points, n outputs and m constraints; the places beyond them are zero.
+// r read points, n outputs and m constraints; the rest word, whose bit k says that output k counts as on before the first scan. The places beyond the
+// counts are zero.
 pub struct Set {
     pub r: usize,
     pub n: usize,
     pub m: usize,
+    pub rest: u16,
     pub reads: [ReadPoint; MOST_READS],
     pub outputs: [OutputPoint; MOST_OUTPUTS],
     pub constraints: [Constraint; MOST_CONSTRAINTS],
@@ -100,6 +102,7 @@ pub fn zero_set() -> Set
         r: 0,
         n: 0,
         m: 0,
+        rest: 0,
         reads,
         outputs,
         constraints,

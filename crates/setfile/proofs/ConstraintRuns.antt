@@ -16,7 +16,7 @@ use Rattle.scan.specs.declared.set.Constraint.{Constraint}
 use Rattle.scan.specs.declared.set.ReadPoint.{ReadPoint}
 use Rattle.scan.specs.declared.set.OutputPoint.{OutputPoint}
 use Rattle.scan.specs.declared.set.Set.{Set}
-use Rattle.scan.specs.Set.{mostReads, mostOutputs, mostPoints, mostConstraints, zeroConstraint, withCounts, withConstraints, noConstraint}
+use Rattle.scan.specs.Set.{mostReads, mostOutputs, mostPoints, mostConstraints, zeroConstraint, withCounts, withConstraints, withRest, noConstraint}
 use Rattle.scan.specs.Shape.{constraintTests}
 use Rattle.scan.proofs.ShapeLaws.{Masks, constraint-masks}
 use Rattle.header.specs.declared.header.Header.{Header}
@@ -86,19 +86,23 @@ body-fits r n c hr hn hs m =
 
 -- ---- one field
 
--- the set with these constraints
-abbrev pub constraintsBase : ℕ → ℕ → List ReadPoint → List OutputPoint → ℕ → List Constraint → Set
-constraintsBase r n reads outputs k l = withCounts (withConstraints (outputsBase r n reads 0 outputs) l) r n k
+-- the set with this rest word
+abbrev pub restBase : ℕ → ℕ → List ReadPoint → List OutputPoint → ℕ → Set
+restBase r n reads outputs word = withRest (outputsBase r n reads 0 outputs) word
+
+-- with these constraints, too
+abbrev pub constraintsBase : ℕ → ℕ → List ReadPoint → List OutputPoint → ℕ → ℕ → List Constraint → Set
+constraintsBase r n reads outputs word k l = withCounts (withConstraints (restBase r n reads outputs word) l) r n k
 
 -- fields of constraints; a constraint fits whichever there are before it
-abbrev pub constraintRun : List ℕ → ℕ → ℕ → List ReadPoint → List OutputPoint → Run Constraint
-constraintRun file r n reads outputs = record {
+abbrev pub constraintRun : List ℕ → ℕ → ℕ → List ReadPoint → List OutputPoint → ℕ → Run Constraint
+constraintRun file r n reads outputs word = record {
   tag = 4;
   body = literalBody;
   places = mostConstraints;
   blank = zeroConstraint;
   past = noConstraint;
-  base = constraintsBase r n reads outputs;
+  base = constraintsBase r n reads outputs word;
   from = λ left k at s. constraintsFrom file left at s;
   Fits = λ l k c. every (constraintTests r n c) ≡ true;
   local = λ a b k c s f. f;
@@ -108,9 +112,9 @@ constraintRun file r n reads outputs = record {
 abbrev pub EndHere : List ℕ → (ℕ → List Constraint → Set) → ℕ → ℕ → ℕ → List Constraint → Type 0
 EndHere file base left k at l = (drop at file ≡ fieldOf 5 []) × (1 ≤ left) × (constraintsFrom file left at (base k l) ≡ goingOn (length file) (base k l))
 
-module _ (file : List ℕ) (r n : ℕ) (hr : r ≤ mostReads) (hn : n ≤ mostOutputs) (hs : r + n ≤ mostPoints) (reads : List ReadPoint) (outputs : List OutputPoint) where
+module _ (file : List ℕ) (r n : ℕ) (hr : r ≤ mostReads) (hn : n ≤ mostOutputs) (hs : r + n ≤ mostPoints) (reads : List ReadPoint) (outputs : List OutputPoint) (word : ℕ) where
   abbrev base : ℕ → List Constraint → Set
-  base = constraintsBase r n reads outputs
+  base = constraintsBase r n reads outputs word
 
   -- A field whose body is that of a well-formed constraint is taken.
   pub constraint-step : (left k at : ℕ) (l : List Constraint) (c : Constraint) (rest : List ℕ) → k < mostConstraints → every (constraintTests r n c) ≡ true → drop at file ≡ fieldOf 4 (literalBody c) ++ rest
@@ -143,12 +147,12 @@ module _ (file : List ℕ) (r n : ℕ) (hr : r ≤ mostReads) (hn : n ≤ mostOu
 
   -- A field that was taken is the end, or the one written for a well-formed constraint.
   pub constraint-moved : Bytes file → (last left k at : ℕ) (l : List Constraint) → k + suc left ≡ suc mostConstraints → constraintsFrom file (suc left) at (base k l) .progress ≡ At last
-      → EndHere file base (suc left) k at l ⊎ Moved file (constraintRun file r n reads outputs) left k at l
+      → EndHere file base (suc left) k at l ⊎ Moved file (constraintRun file r n reads outputs word) left k at l
   unfolding constraintsFrom constraintAt
   constraint-moved bytes last left k at l total e = by-header (headerOf (drop at file) 4 k) refl e
     where
       Move : Type 0
-      Move = Moved file (constraintRun file r n reads outputs) left k at l
+      Move = Moved file (constraintRun file r n reads outputs word) left k at l
 
       opens : (x : Header) → headerOf (drop at file) 4 k ≡ x → constraintsFrom file (suc left) at (base k l) ≡ constraintsGiven file at (base k l) (constraintsFrom file left) x
       opens x t = ap (constraintsGiven file at (base k l) (constraintsFrom file left)) t

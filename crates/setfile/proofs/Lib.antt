@@ -11,6 +11,7 @@ pub mod PointsFit
 pub mod PointFields
 pub mod FieldRuns
 pub mod PointRuns
+pub mod RestFields
 pub mod ConstraintRuns
 pub mod PointKinds
 pub mod ZeroPlaces

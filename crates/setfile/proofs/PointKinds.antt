@@ -13,7 +13,7 @@ use Rattle.scan.specs.declared.set.Kind.the-variants.{Sensor, PastOutput, PastS
 use Rattle.scan.specs.declared.set.ReadPoint.{ReadPoint}
 use Rattle.scan.specs.declared.set.OutputPoint.{OutputPoint}
 use Rattle.scan.specs.declared.set.Set.{Set}
-use Rattle.scan.specs.Set.{mostReads, mostOutputs, namePlaces, zeroRead, zeroOutput, withReads, withOutputs, noRead, noOutput}
+use Rattle.scan.specs.Set.{mostReads, mostOutputs, namePlaces, zeroRead, zeroOutput, zeroSet, withReads, withOutputs, noRead, noOutput}
 use Rattle.scan.specs.Names.{nameBytes}
 use Rattle.header.specs.declared.numbers.Taken.{Taken}
 use Rattle.header.specs.declared.numbers.Taken.the-variants.{Good}
@@ -100,6 +100,11 @@ module _ (file : List ℕ) (r n : ℕ) where
 -- the set with these outputs
 abbrev pub outputsBase : ℕ → ℕ → List ReadPoint → ℕ → List OutputPoint → Set
 outputsBase r n reads j l = withOutputs (readsBase r n 0 reads) l
+
+-- its rest word is 0 so far
+pub no-rest : (r n : ℕ) (reads : List ReadPoint) (j : ℕ) (l : List OutputPoint) → outputsBase r n reads j l .rest ≡ 0
+unfolding zeroSet
+no-rest r n reads j l = refl
 
 abbrev pub outputRun : List ℕ → ℕ → ℕ → List ReadPoint → Run OutputPoint
 outputRun file r n reads = record {

@@ -1,9 +1,9 @@
 -- A set whose counts pass, whose parts fit and which has zeros beyond them is well formed.
 -- Assumes nothing.
-use mathlib.Core.Path.{_≡_, refl, sym, _∙_, ap}
-use mathlib.Core.Bool.{Bool, true, cond}
+use mathlib.Core.Path.{_≡_, refl, sym, _∙_, ap, ap₂}
+use mathlib.Core.Bool.{Bool, true, cond, _&&_}
 use mathlib.Core.List.{[], _∷_}
-use Prim.Native.Nat.{ℕ, _+_, _≤_, _<_}
+use Prim.Native.Nat.{ℕ, _+_, _^_, _≤_, _<_}
 use native.Mathlib.Decide.{decLt}
 use native.Mathlib.Omega.{arith}
 use lib.Dec.{ltb}
@@ -43,6 +43,9 @@ zero-constraint = refl
 five : (a b c d e : Bool) → a ≡ true → b ≡ true → c ≡ true → d ≡ true → e ≡ true → every (a ∷ b ∷ c ∷ d ∷ e ∷ []) ≡ true
 five a b c d e a′ b′ c′ d′ e′ = rw (a′, b′, c′, d′, e′)
 
+six : (a b c d e f : Bool) → a ≡ true → b ≡ true → c ≡ true → d ≡ true → e ≡ true → f ≡ true → every (a ∷ b ∷ c ∷ d ∷ e ∷ f ∷ []) ≡ true
+six a b c d e f a′ b′ c′ d′ e′ f′ = ap₂ _&&_ a′ (five b c d e f b′ c′ d′ e′ f′)
+
 -- the counts pass with as many constraints as there are
 counts-pass : (r n m : ℕ) → every (countTests r n 0) ≡ true → m ≤ mostConstraints → every (countTests r n m) ≡ true
 unfolding countTests
@@ -53,7 +56,7 @@ pub limits : (r n : ℕ) → every (countTests r n 0) ≡ true → (r ≤ mostRe
 unfolding countTests
 limits r n e = let t = every-at (countTests r n 0) e in (leb-true r mostReads (t 0), leb-true n mostOutputs (t 2), leb-true (r + n) mostPoints (t 3))
 
--- a set of counts that pass and parts that fit, with zeros beyond
+-- a set of counts that pass and parts that fit, its rest word too, with zeros beyond
 pub record Whole (s : Set) : Type 0 where
   pub counts : every (countTests (s .r) (s .n) 0) ≡ true
   pub few : s .m ≤ mostConstraints
@@ -62,13 +65,14 @@ pub record Whole (s : Set) : Type 0 where
   pub outputs : Filled zeroOutput noOutput mostOutputs (s .n) (s .outputs)
   pub outputs-fit : (k : ℕ) → k < s .n → OutputFits (s .reads) (s .r) (s .outputs) k (outputPoint (s .outputs) k)
   pub constraints : Filled zeroConstraint noConstraint mostConstraints (s .m) (s .constraints)
+  pub rest-fits : s .rest < 2 ^ s .n
   pub constraints-fit : (k : ℕ) → k < s .m → every (constraintTests (s .r) (s .n) (getD (s .constraints) k noConstraint)) ≡ true
 
 -- Such a set is well formed.
 pub whole-formed : (s : Set) → Whole s → wellFormed s ≡ true
 unfolding wellFormed setTests lengthTests readPlace outputPlace constraintPlace constraint
 whole-formed s w =
-    five _ _ _ _ _
+    six _ _ _ _ _ _
     (counts-pass (s .r) (s .n) (s .m) (w .counts) (w .few))
     lengths-pass
     (placed (s .r) mostReads (readOk (s .reads) (s .n)) (λ k. readZero (readPoint (s .reads) k))
@@ -77,6 +81,7 @@ whole-formed s w =
     (λ k h. fits-output (s .reads) (s .r) (s .outputs) k (w .outputs-fit k h)) (λ k h l. ap (λ (p : OutputPoint). nameZero (p .name)) (w .outputs .blank k h l) ∙ zero-output))
     (placed (s .m) mostConstraints (λ k. every (constraintTests (s .r) (s .n) (getD (s .constraints) k noConstraint))) (λ k. constraintZero (getD (s .constraints) k noConstraint))
     (w .constraints-fit) (λ k h l. ap constraintZero (w .constraints .blank k h l) ∙ zero-constraint))
+    (lt-ltb (s .rest) (2 ^ s .n) (w .rest-fits))
   where
     lengths-pass : every (lengthTests s) ≡ true
     lengths-pass = rw (eq-eqb (length (s .reads)) mostReads (w .reads .long), eq-eqb (length (s .outputs)) mostOutputs (w .outputs .long), eq-eqb (length (s .constraints)) mostConstraints (w .constraints .long))

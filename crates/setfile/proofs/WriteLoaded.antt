@@ -20,15 +20,16 @@ use Rattle.loader.specs.declared.loader.Progress.the-variants.{At, Refused}
 use Rattle.loader.specs.declared.loader.LoadAnswer.the-variants.{Loaded}
 use Rattle.header.specs.Bytes.{Bytes}
 use Rattle.header.specs.Header.{headerOf, bodyOf, fitsTable}
-use Rattle.loader.specs.Load.{Loading, goingOn, thenFrom, andThen, fieldDone, fieldBy, ofCounts, goodIf, countsTold, countsMade, countsAt, readsFrom, outputsFrom, constraintsFrom}
-use Rattle.loader.specs.Load.{afterCounts, afterReads, afterOutputs, answerOf, loadFrom, loadOf}
-use Rattle.writer.specs.Write.{fieldOf, fieldsOf, readBody, outputBody, literalBody, writeOf}
+use Rattle.loader.specs.Load.{Loading, goingOn, thenFrom, andThen, fieldDone, fieldBy, ofCounts, goodIf, countsTold, countsMade, countsAt, readsFrom, outputsFrom, restAt, constraintsFrom}
+use Rattle.loader.specs.Load.{afterCounts, afterReads, afterOutputs, afterRest, answerOf, loadFrom, loadOf}
+use Rattle.writer.specs.Write.{fieldOf, fieldsOf, readBody, outputBody, literalBody, restField, writeOf}
 use Rattle.header.proofs.HeaderLaws.{table-bounds, due-is}
 use Rattle.setfile.proofs.Fields.{two-bytes, found}
 use Rattle.setfile.proofs.FieldRuns.{Done, run-taken}
 use Rattle.setfile.proofs.PointRuns.{points-taken}
-use Rattle.setfile.proofs.PointKinds.{readsBase, readRun, readPoints, outputsBase, outputRun, outputPoints}
-use Rattle.setfile.proofs.ConstraintRuns.{constraintsBase, constraintRun, EndHere, constraints-zero, constraint-moved}
+use Rattle.setfile.proofs.PointKinds.{readsBase, readRun, readPoints, outputsBase, no-rest, outputRun, outputPoints}
+use Rattle.setfile.proofs.RestFields.{Took, rest-taken}
+use Rattle.setfile.proofs.ConstraintRuns.{restBase, constraintsBase, constraintRun, EndHere, constraints-zero, constraint-moved}
 use Rattle.setfile.proofs.WholeSets.{limits, whole-formed}
 use Rattle.setfile.proofs.LoadWritten.{file-parts}
 
@@ -105,49 +106,65 @@ module _ (file : List ℕ) (bytes : Bytes file) (last : ℕ) (c : Counted file) 
   module _ (at1 : ℕ) (reads : List ReadPoint) (a : Done file (readRun file r n) 5 r at1 reads) (a-load : readsFrom file r 0 5 (ofCounts r n) ≡ goingOn at1 (readsBase r n r reads)) where
     module _ (at2 : ℕ) (outputs : List OutputPoint) (b : Done file (outputRun file r n reads) at1 n at2 outputs)
         (b-load : outputsFrom file n 0 at1 (readsBase r n r reads) ≡ goingOn at2 (outputsBase r n reads n outputs)) where
-      -- all of them
-      ended : (m left at3 : ℕ) (full : List Constraint) → m + left ≡ suc mostConstraints → Done file (constraintRun file r n reads outputs) at2 m at3 full
-          → EndHere file (constraintsBase r n reads outputs) left m at3 full → constraintsFrom file (suc mostConstraints) at2 (outputsBase r n reads n outputs) ≡ constraintsFrom file left at3 (constraintsBase r n reads outputs m full)
-          → Read file
-      unfolding loadFrom
-      ended m left at3 full total d stop d-load =
-          let s = constraintsBase r n reads outputs m full in
-          record {
-            set = s;
-            loaded =
-                ap (λ (l : Loading). andThen l (afterCounts file)) (c .loaded)
-                ∙ ap (λ (l : Loading). andThen l (afterReads file)) a-load
-                ∙ ap (λ (l : Loading). andThen l (afterOutputs file)) b-load
-                ∙ d-load ∙ stop .2;
-            written =
-                file-parts s
-                ∙ sym (c .written
-                ∙ ap (λ (l : List ℕ). fieldOf 1 (r ∷ n ∷ []) ++ l) (a .written
-                ∙ ap (λ (l : List ℕ). fieldsOf 2 readBody (take r reads) ++ l) (b .written
-                ∙ ap (λ (l : List ℕ). fieldsOf 3 outputBody (take n outputs) ++ l) (d .written
-                ∙ ap (λ (l : List ℕ). fieldsOf 4 literalBody (take m full) ++ l) (stop .0)))));
-            formed =
-                whole-formed s
-                (record {
-                  counts = c .passed;
-                  few = not-last m left total (stop .1);
-                  reads = a .filled;
-                  reads-fit = a .fits;
-                  outputs = b .filled;
-                  outputs-fit = b .fits;
-                  constraints = d .filled;
-                  constraints-fit = d .fits;
-                });
-          }
+      module _ (at3 : ℕ) (w : Took file at2 (outputsBase r n reads n outputs) (no-rest r n reads n outputs) at3) where
+        -- the rest word
+        abbrev word : ℕ
+        word = w .word
 
-      -- the constraints
-      constraints-read : constraintsFrom file (suc mostConstraints) at2 (outputsBase r n reads n outputs) .progress ≡ At last → Read file
+        -- all of them
+        ended : (m left at4 : ℕ) (full : List Constraint) → m + left ≡ suc mostConstraints → Done file (constraintRun file r n reads outputs word) at3 m at4 full
+            → EndHere file (constraintsBase r n reads outputs word) left m at4 full
+            → constraintsFrom file (suc mostConstraints) at3 (restBase r n reads outputs word) ≡ constraintsFrom file left at4 (constraintsBase r n reads outputs word m full) → Read file
+        unfolding loadFrom
+        ended m left at4 full total d stop d-load =
+            let s = constraintsBase r n reads outputs word m full in
+            record {
+              set = s;
+              loaded =
+                  ap (λ (l : Loading). andThen l (afterCounts file)) (c .loaded)
+                  ∙ ap (λ (l : Loading). andThen l (afterReads file)) a-load
+                  ∙ ap (λ (l : Loading). andThen l (afterOutputs file)) b-load
+                  ∙ ap (λ (l : Loading). andThen l (afterRest file)) (w .loaded)
+                  ∙ d-load ∙ stop .2;
+              written =
+                  file-parts s
+                  ∙ sym (c .written
+                  ∙ ap (λ (l : List ℕ). fieldOf 1 (r ∷ n ∷ []) ++ l) (a .written
+                  ∙ ap (λ (l : List ℕ). fieldsOf 2 readBody (take r reads) ++ l) (b .written
+                  ∙ ap (λ (l : List ℕ). fieldsOf 3 outputBody (take n outputs) ++ l) (w .written
+                  ∙ ap (λ (l : List ℕ). restField word ++ l) (d .written
+                  ∙ ap (λ (l : List ℕ). fieldsOf 4 literalBody (take m full) ++ l) (stop .0))))));
+              formed =
+                  whole-formed s
+                  (record {
+                    counts = c .passed;
+                    few = not-last m left total (stop .1);
+                    reads = a .filled;
+                    reads-fit = a .fits;
+                    outputs = b .filled;
+                    outputs-fit = b .fits;
+                    constraints = d .filled;
+                    rest-fits = w .small;
+                    constraints-fit = d .fits;
+                  });
+            }
+
+        -- the constraints
+        constraints-read : constraintsFrom file (suc mostConstraints) at3 (restBase r n reads outputs word) .progress ≡ At last → Read file
+        unfolding zeroSet
+        constraints-read e =
+            let t = limited in
+            let d = run-taken file (constraintRun file r n reads outputs word) (suc mostConstraints) last (EndHere file (constraintsBase r n reads outputs word))
+            (constraints-zero file r n (t .0) (t .1) (t .2) reads outputs word last) (constraint-moved file r n (t .0) (t .1) (t .2) reads outputs word bytes last) at3 e in
+            ended (d .count) (d .spare) (d .place) (d .full) (d .total) (d .done) (d .stop) (d .loaded)
+
+      -- the rest word
+      rest-read : andThen (restAt file at2 (outputsBase r n reads n outputs)) (afterRest file) .progress ≡ At last → Read file
       unfolding zeroSet
-      constraints-read e =
-          let t = limited in
-          let d = run-taken file (constraintRun file r n reads outputs) (suc mostConstraints) last (EndHere file (constraintsBase r n reads outputs))
-          (constraints-zero file r n (t .0) (t .1) (t .2) reads outputs last) (constraint-moved file r n (t .0) (t .1) (t .2) reads outputs bytes last) at2 e in
-          ended (d .count) (d .spare) (d .place) (d .full) (d .total) (d .done) (d .stop) (d .loaded)
+      rest-read e =
+          let s = came (restAt file at2 (outputsBase r n reads n outputs)) (afterRest file) last e in
+          let w = rest-taken file at2 (outputsBase r n reads n outputs) (no-rest r n reads n outputs) bytes (s .0) (s .1) in
+          constraints-read (s .0) w (ap (λ (l : Loading). andThen l (afterRest file) .progress) (sym (w .loaded)) ∙ e)
 
     -- the outputs
     outputs-read : andThen (outputsFrom file n 0 at1 (readsBase r n r reads)) (afterOutputs file) .progress ≡ At last → Read file
@@ -155,7 +172,7 @@ module _ (file : List ℕ) (bytes : Bytes file) (last : ℕ) (c : Counted file) 
     outputs-read e =
         let s = came (outputsFrom file n 0 at1 (readsBase r n r reads)) (afterOutputs file) last e in
         let b = points-taken file (outputPoints file r n reads) bytes n (limited .1) at1 (s .0) (s .1) in
-        constraints-read (b .0) (b .1) (b .2) (b .3) (ap (λ (l : Loading). andThen l (afterOutputs file) .progress) (sym (b .3)) ∙ e)
+        rest-read (b .0) (b .1) (b .2) (b .3) (ap (λ (l : Loading). andThen l (afterOutputs file) .progress) (sym (b .3)) ∙ e)
 
   -- the read points
   reads-read : andThen (readsFrom file r 0 5 (ofCounts r n)) (afterReads file) .progress ≡ At last → Read file

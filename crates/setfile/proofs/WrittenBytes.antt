@@ -1,11 +1,11 @@
 -- The file of a well-formed set is a list of bytes.
 -- Assumes nothing.
 use mathlib.Core.Path.{_≡_, sym, subst}
-use mathlib.Core.Bool.{Bool, true, false}
+use mathlib.Core.Bool.{Bool, true, false, cond}
 use mathlib.Core.List.{List, [], _∷_, _++_}
-use Prim.Native.Nat.{ℕ, zero, suc, _/_, _%_, _≤_, _<_}
+use Prim.Native.Nat.{ℕ, zero, suc, _/_, _%_, _^_, _≤_, _<_}
 use native.Mathlib.Omega.{arith}
-use lib.Dec.{ltb, leb}
+use lib.Dec.{ltb, leb, eqb}
 use lib.ListN.{length, getD, take, length-take}
 use lib.Seq.{getD-take}
 use borrow.Author.Tests.{ltb-true, leb-true}
@@ -21,10 +21,10 @@ use Rattle.scan.specs.declared.set.Set.{Set}
 use Rattle.scan.specs.Set.{mostReads, mostOutputs, readPoint, outputPoint, constraint, noRead, noOutput, noConstraint}
 use Rattle.scan.specs.Names.{nameByte, allNameBytes, nameBytes, nameOk}
 use Rattle.scan.specs.Shape.{isSensor, kindOk, wellFormed}
-use Rattle.scan.proofs.ShapeLaws.{Masks, rank-lt, counts, masks, points-formed}
+use Rattle.scan.proofs.ShapeLaws.{Masks, rank-lt, counts, rest-lt, masks, wide, points-formed}
 use Rattle.scan.proofs.NamesLaws.{name-formed, bytes-named}
 use Rattle.header.specs.Bytes.{Bytes}
-use Rattle.writer.specs.Write.{fieldOf, kindBytes, readBody, outputBody, readLiteral, outputLiteral, literalBody, fieldsOf, writeOf}
+use Rattle.writer.specs.Write.{fieldOf, kindBytes, readBody, outputBody, readLiteral, outputLiteral, literalBody, fieldsOf, restBody, restField, writeOf}
 use Rattle.setfile.proofs.LiteralPlaces.{mask, by-four}
 use Rattle.setfile.proofs.BodyPlaces.{worth}
 use Rattle.setfile.proofs.LiteralBytes.{byte, told, literal}
@@ -32,7 +32,7 @@ use Rattle.header.proofs.HeaderLaws.{table-bounds}
 use Rattle.setfile.proofs.PointsFit.{read-fits, output-fits}
 use Rattle.setfile.proofs.PointKinds.{reads-give, outputs-give}
 use Rattle.setfile.proofs.ConstraintRuns.{body-fits}
-use Rattle.setfile.proofs.LoadWritten.{lastFields, laterFields, restFields, file-parts}
+use Rattle.setfile.proofs.LoadWritten.{behindRest, behindOutputs, behindReads, behindCounts, file-parts}
 
 -- ---- lists of bytes
 
@@ -107,6 +107,17 @@ of-literals r n c m =
     (of-joined mostReads (literal c false) (λ k h. of-told false (bit k (mask false false c)) (bit k (mask false true c)) k 0 (omega arith) (omega arith)))
     (of-joined mostOutputs (literal c true) (λ k h. of-told true (bit k (mask true false c)) (bit k (mask true true c)) k (worth true c k) (omega arith) (rank-lt c k (m .ranks-ok k h))))
 
+of-rest : (word : ℕ) → word < 2 ^ 16 → Bytes (restField word)
+unfolding restField
+of-rest word h = go (eqb word 0)
+  where
+    field : List ℕ
+    field = fieldOf 6 (restBody word)
+
+    go : (b : Bool) → Bytes (cond b [] field)
+    go true = none
+    go false = of-field 6 (restBody word) (omega arith) (omega arith) (two (word / 256) (word % 256) (omega arith) (omega arith))
+
 -- The file of a well-formed set is a list of bytes.
 pub written-bytes : (s : Set) → wellFormed s ≡ true → Bytes (writeOf s)
 unfolding constraint
@@ -116,23 +127,24 @@ written-bytes s ok =
     let few = c .r-le in
     let low = c .n-le in
     subst Bytes (sym (file-parts s))
-    (both (fieldOf 1 (s .r ∷ s .n ∷ [])) (restFields s) (of-field 1 (s .r ∷ s .n ∷ []) (omega arith) (omega arith) (two (s .r) (s .n) (omega arith) (omega arith)))
-    (both (fieldsOf 2 readBody (take (s .r) (s .reads))) (laterFields s)
+    (both (fieldOf 1 (s .r ∷ s .n ∷ [])) (behindCounts s) (of-field 1 (s .r ∷ s .n ∷ []) (omega arith) (omega arith) (two (s .r) (s .n) (omega arith) (omega arith)))
+    (both (fieldsOf 2 readBody (take (s .r) (s .reads))) (behindReads s)
     (of-first 2 readBody noRead (s .reads) (s .r) (omega arith)
     (λ k h. let f = read-fits (s .n) (s .reads) k (p .read-ok k h) in
     let q = readPoint (s .reads) k in
     let w = table-bounds 2 (length (readBody q)) (reads-give [] (s .r) (s .n) (s .reads) k q f .0) .1 in
     (omega (arith, w), both (kindBytes (q .kind)) (nameBytes (q .name)) (of-kind (s .reads) (s .n) k (q .kind) low (omega arith) (f .kind-ok)) (of-name (q .name) (f .name-ok)))))
-    (both (fieldsOf 3 outputBody (take (s .n) (s .outputs))) (lastFields s)
+    (both (fieldsOf 3 outputBody (take (s .n) (s .outputs))) (behindOutputs s)
     (of-first 3 outputBody noOutput (s .outputs) (s .n) (omega arith)
     (λ k h. let f = output-fits (s .reads) (s .r) (s .outputs) k (p .output-ok k h) in
     let q = outputPoint (s .outputs) k in
     let w = table-bounds 3 (length (outputBody q)) (outputs-give [] (s .r) (s .n) (s .reads) (s .outputs) k q f .0) .1 in
     (omega (arith, w), of-name (q .name) (f .name-ok))))
+    (both (restField (s .rest)) (behindRest s) (of-rest (s .rest) (wide s ok (s .rest) (rest-lt s ok)))
     (both (fieldsOf 4 literalBody (take (s .m) (s .constraints))) (fieldOf 5 [])
     (of-first 4 literalBody noConstraint (s .constraints) (s .m) (omega arith)
     (λ k h. let m = masks s ok k h in
     let q = getD (s .constraints) k noConstraint in
     let w = table-bounds 4 (length (literalBody q)) (body-fits (s .r) (s .n) q (c .r-le) (c .n-le) (c .sum-le) m) .1 in
     (omega (arith, w), of-literals (s .r) (s .n) q m)))
-    (of-field 5 [] (omega arith) (omega arith) none)))))
+    (of-field 5 [] (omega arith) (omega arith) none))))))

@@ -128,13 +128,13 @@ module _ (s : Set) where
   unfolding wellFormed setTests
   bad-counts e = sym (rw e)
 
-  pub set-tests : (p q c x y : Bool) → every (countTests (s .r) (s .n) (s .m)) ≡ true
+  pub set-tests : (p q c z v x y : Bool) → every (countTests (s .r) (s .n) (s .m)) ≡ true
       → length (s .reads) ≡ mostReads → length (s .outputs) ≡ mostOutputs → length (s .constraints) ≡ mostConstraints
       → p ≡ all mostReads (readPlace (s .reads) (s .r) (s .n)) → q ≡ all mostOutputs (outputPlace (s .reads) (s .r) (s .outputs) (s .n)) → c ≡ all mostConstraints (constraintPlace s)
-      → x ≡ (q && c) → y ≡ (p && x) → y ≡ wellFormed s
+      → z ≡ ltb (s .rest) (2 ^ s .n) → v ≡ (c && z) → x ≡ (q && v) → y ≡ (p && x) → y ≡ wellFormed s
   unfolding wellFormed setTests lengthTests
-  set-tests p q c x y ec lr lo lc ep eq eo ex ey =
-      three p q c _ _ _ x y ep eq eo ex ey
+  set-tests p q c z v x y ec lr lo lc ep eq eo ez ev ex ey =
+      ey ∙ ap₂ _&&_ ep (three q c z _ _ _ v x eq eo ez ev ex)
       ∙ and-on (every (lengthTests s)) _
       (sym (sized (length (s .reads)) mostReads true lr ∙ ap (λ (b : Bool). eqb (length (s .reads)) mostReads && b)
       (sized (length (s .outputs)) mostOutputs true lo ∙ ap (λ (b : Bool). eqb (length (s .outputs)) mostOutputs && b) (sized (length (s .constraints)) mostConstraints true lc))))

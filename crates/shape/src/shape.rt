@@ -294,7 +294,10 @@ pub fn well_formed(set: Set) -> bool
         let own = names_of_outputs(outputs);
         return both(
             are_reads_ok(&names, reads, r, n),
-            both(are_outputs_ok(&names, r, &own, n), are_constraints_ok(set)),
+            both(
+                are_outputs_ok(&names, r, &own, n),
+                both(are_constraints_ok(set), words::fits16(set.rest, n)),
+            ),
         );
     }
     false

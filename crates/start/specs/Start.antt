@@ -9,7 +9,8 @@ use Rattle.verdict.specs.declared.verdict.Verdict.the-variants.{Accepted, BadSe
 use Rattle.start.specs.declared.starting.Started.{Started}
 use Rattle.verdict.specs.Judge.{judgeOf}
 
--- the state of the set with both pasts 0 and no scan accepted yet if it is accepted, else the state with every field zero
+-- if the set is accepted, its state with its rest word as the past output word, past sensor word 0 and no scan accepted yet; else the state with every
+-- field zero
 abbrev pub startState : Set → Verdict → State
 startState s Accepted = freshState s
 startState s BadSet = zeroState

@@ -17,13 +17,14 @@ pub struct Started {
     pub state: State,
 }
 
-// The state of the set with both pasts 0, and no scan accepted yet.
+// The state of the set with its rest word as the past output word, past sensor word 0, and no scan accepted yet.
 fn fresh(set: Set) -> State
-    ensures { λ r. ⌜ r ≡ stateOf set 0 0 false ⌝ }
+    ensures { λ r. ⌜ r ≡ stateOf set (set .rest) 0 false ⌝ }
 {
+    let rest = set.rest;
     State {
         set,
-        past_output: 0,
+        past_output: rest,
         past_sensor: 0,
         accepted: false,
     }

@@ -152,6 +152,14 @@ unfolding linesText
 lines-append [] y = refl
 lines-append (l ∷ x) y = ap (λ (t : List ℕ). lineBytes l ++ t) (lines-append x y) ∙ sym (append-assoc (lineBytes l) (linesText x) (linesText y))
 
+-- the lines that a function of the number gives
+pub joined-lines-grow : (f : ℕ → List (List (List ℕ))) (n : ℕ) → Grows (λ k. linesText (joined k f)) (λ k. linesText (f k)) n
+unfolding linesText
+joined-lines-grow f n = record {
+  none = ap linesText (joined-grow f n .none);
+  one = λ k h. ap linesText (joined-grow f n .one k h) ∙ lines-append (joined k f) (f k);
+}
+
 -- the lines of a list's elements
 pub lines-grow : {A : Type 0} (line : A → List (List ℕ)) (xs : List A) (n : ℕ) (d : A) → n ≤ length xs
     → Grows (λ k. linesText (map line (take k xs))) (λ k. lineBytes (line (getD xs k d))) n

@@ -32,9 +32,9 @@ use Rattle.scan.specs.Shape.{wellFormed}
 use Rattle.scan.proofs.ShapeLaws.{counts, masks}
 use Rattle.shape.specs.way.Names.{ReadNames, OutputNames}
 use Rattle.text.specs.declared.printing.TextPut.the-variants.{Put, BadSet, Short}
-use Rattle.text.specs.Grammar.{output-word, sensor-word, past-word, of-word, never-word, and-word, rank-word, end-word}
-use Rattle.text.specs.Text.{outputLine, kindLine, readLine, spacedWords, stateWord, rankWords, behind, namedBelow, namedReads, several, readLiteral, outputLiteral, neverLine, shownLines, linesText, textOf, textAnswer, bufferAfter}
-use Rattle.text.specs.way.Place.{textEnd, putWithin, lineBytes, kindLineBy, literalIf, literalAt, neverLineBy, outputsBytes, readsBytes, constraintsBytes}
+use Rattle.text.specs.Grammar.{output-word, sensor-word, past-word, of-word, rest-word, never-word, and-word, rank-word, end-word}
+use Rattle.text.specs.Text.{outputLine, kindLine, readLine, restLine, spacedWords, stateWord, rankWords, behind, namedBelow, namedReads, several, readLiteral, outputLiteral, neverLine, shownLines, linesText, textOf, textAnswer, bufferAfter}
+use Rattle.text.specs.way.Place.{textEnd, putWithin, lineBytes, kindLineBy, restIf, restLineBy, literalIf, literalAt, neverLineBy, outputsBytes, readsBytes, restsBytes, constraintsBytes}
 use Rattle.text.proofs.PlaceLaws.{spaced-append, lines-append, put-is}
 
 -- ---- whether a read point is named
@@ -92,20 +92,28 @@ module _ (s : Set) (reads outputs : List (List ℕ)) (read-same : (k : ℕ) → 
   unfolding neverLine
   never-told c = λ i. never-word ∷ (joined mostReads (λ k. read-told c k i) ++ joined mostOutputs (λ k. output-told c k i))
 
-  -- the lines of the points and constraints, and `end`
-  pub text-told : ((outputsBytes (s .outputs) (s .n) ++ readsBytes reads outputs (s .reads) (s .r)) ++ constraintsBytes reads outputs (s .constraints) (s .m)) ++ (0x65 ∷ 0x6E ∷ 0x64 ∷ 0x0A ∷ [])
+  rest-told : (k : ℕ) → restLineBy outputs (s .rest) k ≡ restLine s k
+  unfolding restLineBy restLine
+  rest-told k = ap (λ (l : List ℕ). restIf (bit k (s .rest)) (nameBytes l)) (output-same k)
+
+  -- the lines of the points, of the rest word and of the constraints, and `end`
+  pub text-told : (((outputsBytes (s .outputs) (s .n) ++ readsBytes reads outputs (s .reads) (s .r)) ++ restsBytes outputs (s .rest)) ++ constraintsBytes reads outputs (s .constraints) (s .m))
+      ++ (0x65 ∷ 0x6E ∷ 0x64 ∷ 0x0A ∷ [])
       ≡ textOf s
   unfolding textOf shownLines linesText neverLine spacedWords
   text-told =
       let o = map outputLine (take (s .n) (s .outputs)) in
       let r = map (readLine s) (take (s .r) (s .reads)) in
+      let q = joined mostOutputs (restLine s) in
       let m = map (neverLine s) (take (s .m) (s .constraints)) in
       let e = (end-word ∷ []) ∷ [] in
-      (λ i. ((linesText o ++ linesText (map (λ p. kind-told (nameBytes (p .name)) (p .kind) i) (take (s .r) (s .reads))))
+      (λ i. (((linesText o ++ linesText (map (λ p. kind-told (nameBytes (p .name)) (p .kind) i) (take (s .r) (s .reads))))
+      ++ linesText (joined mostOutputs (λ k. rest-told k i)))
       ++ linesText (map (λ c. never-told c i) (take (s .m) (s .constraints)))) ++ (0x65 ∷ 0x6E ∷ 0x64 ∷ 0x0A ∷ []))
-      ∙ ap (λ (l : List ℕ). (l ++ linesText m) ++ linesText e) (sym (lines-append o r))
-      ∙ ap (λ (l : List ℕ). l ++ linesText e) (sym (lines-append (o ++ r) m))
-      ∙ sym (lines-append ((o ++ r) ++ m) e)
+      ∙ ap (λ (l : List ℕ). ((l ++ linesText q) ++ linesText m) ++ linesText e) (sym (lines-append o r))
+      ∙ ap (λ (l : List ℕ). (l ++ linesText m) ++ linesText e) (sym (lines-append (o ++ r) q))
+      ∙ ap (λ (l : List ℕ). l ++ linesText e) (sym (lines-append ((o ++ r) ++ q) m))
+      ∙ sym (lines-append (((o ++ r) ++ q) ++ m) e)
 
 -- ---- the read points that a constraint in use names
 
@@ -177,6 +185,12 @@ unfolding linesText
 lines-most line most h [] = omega arith
 lines-most line most h (x ∷ xs) = omega (arith, length-append (lineBytes (line x)) (linesText (map line xs)), h x, lines-most line most h xs, suc-mul (length xs) most)
 
+joined-lines-most : (f : ℕ → List (List (List ℕ))) (most : ℕ) → ((k : ℕ) → length (linesText (f k)) ≤ most) → (n : ℕ) → length (linesText (joined n f)) ≤ n * most
+unfolding joined linesText
+joined-lines-most f most h zero = omega arith
+joined-lines-most f most h (suc n) =
+    omega (arith, ap length (lines-append (joined n f) (f n)), length-append (linesText (joined n f)) (linesText (f n)), joined-lines-most f most h n, h n, suc-mul n most)
+
 line-long : (first : List ℕ) (words : List (List ℕ)) → length (lineBytes (first ∷ words)) ≡ length first + length (spacedWords words) + 1
 line-long first words = length-append (first ++ spacedWords words) (0x0A ∷ []) ∙ ap (λ (k : ℕ). k + 1) (length-append first (spacedWords words))
 
@@ -191,6 +205,22 @@ output-line-most : (p : OutputPoint) → length (lineBytes (outputLine p)) ≤ 1
 output-line-most p = omega (arith, line-long output-word (nameBytes (p .name) ∷ []), spaced-long (nameBytes (p .name)) [], spaced-none, name-most (p .name))
 
 module _ (s : Set) where
+  rest-line-most : (k : ℕ) → length (linesText (restLine s k)) ≤ 14
+  unfolding restLine linesText
+  rest-line-most k = go (bit k (s .rest)) (outputPoint (s .outputs) k .name)
+    where
+      go : (on : Bool) (name : List ℕ) → length (linesText (restIf on (nameBytes name))) ≤ 14
+      go true name =
+          omega (
+            arith,
+            length-append (lineBytes (rest-word ∷ nameBytes name ∷ [])) [],
+            line-long rest-word (nameBytes name ∷ []),
+            spaced-long (nameBytes name) [],
+            spaced-none,
+            name-most name,
+          )
+      go false name = omega arith
+
   past-most : (name other : List ℕ) → length (lineBytes (past-word ∷ nameBytes name ∷ of-word ∷ nameBytes other ∷ [])) ≤ 26
   past-most name other =
       omega (
@@ -229,11 +259,14 @@ module _ (s : Set) where
   text-fits ok =
       let o = map outputLine (take (s .n) (s .outputs)) in
       let r = map (readLine s) (take (s .r) (s .reads)) in
+      let q = joined mostOutputs (restLine s) in
       let m = map (neverLine s) (take (s .m) (s .constraints)) in
       let e = (end-word ∷ []) ∷ [] in
       let c = counts s ok in
-      let whole : length (textOf s) ≡ length (linesText o) + length (linesText r) + length (linesText m) + length (linesText e) =
-      both-long ((o ++ r) ++ m) e ∙ ap (λ (k : ℕ). k + length (linesText e)) (both-long (o ++ r) m ∙ ap (λ (k : ℕ). k + length (linesText m)) (both-long o r)) in
+      let whole : length (textOf s) ≡ length (linesText o) + length (linesText r) + length (linesText q) + length (linesText m) + length (linesText e) =
+      both-long (((o ++ r) ++ q) ++ m) e
+      ∙ ap (λ (k : ℕ). k + length (linesText e)) (both-long ((o ++ r) ++ q) m
+      ∙ ap (λ (k : ℕ). k + length (linesText m)) (both-long (o ++ r) q ∙ ap (λ (k : ℕ). k + length (linesText q)) (both-long o r))) in
       omega (
         arith,
         whole,
@@ -242,6 +275,7 @@ module _ (s : Set) where
         length-take (s .n) (s .outputs),
         lines-most (readLine s) 26 (λ p. kind-line-most (p .name) (p .kind)) (take (s .r) (s .reads)),
         length-take (s .r) (s .reads),
+        joined-lines-most (restLine s) 14 rest-line-most mostOutputs,
         lines-most (neverLine s) 794 never-line-most (take (s .m) (s .constraints)),
         length-take (s .m) (s .constraints),
         c .r-le,

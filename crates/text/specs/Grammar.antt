@@ -19,6 +19,10 @@ past-word = 0x70 ∷ 0x61 ∷ 0x73 ∷ 0x74 ∷ []
 abbrev pub of-word : List ℕ
 of-word = 0x6F ∷ 0x66 ∷ []
 
+-- rest
+abbrev pub rest-word : List ℕ
+rest-word = 0x72 ∷ 0x65 ∷ 0x73 ∷ 0x74 ∷ []
+
 -- never
 abbrev pub never-word : List ℕ
 never-word = 0x6E ∷ 0x65 ∷ 0x76 ∷ 0x65 ∷ 0x72 ∷ []

@@ -1,4 +1,4 @@
--- The text of a set: its outputs, read points and constraints by number, each on a line of its own, and `end`. Then putting it into a buffer.
+-- The text of a set: its outputs, its read points, the outputs of its rest word and its constraints by number, each on a line of its own, and `end`. Then putting it into a buffer.
 -- Assumes nothing.
 use Prim.Native.Nat.{ℕ}
 use mathlib.Core.Bool.{Bool, cond, not, _&&_, _||_}
@@ -20,7 +20,7 @@ use Rattle.scan.specs.Names.{nameBytes}
 use Rattle.scan.specs.Shape.{wellFormed}
 use Rattle.text.specs.declared.printing.TextPut.{TextPut}
 use Rattle.text.specs.declared.printing.TextPut.the-variants.{Put, BadSet, Short}
-use Rattle.text.specs.Grammar.{output-word, sensor-word, past-word, of-word, never-word, and-word, on-word, off-word, rank-word, end-word}
+use Rattle.text.specs.Grammar.{output-word, sensor-word, past-word, of-word, rest-word, never-word, and-word, on-word, off-word, rank-word, end-word}
 
 -- ---- the words of points
 
@@ -45,6 +45,10 @@ kindLine s name (PastSensor i) = past-word ∷ name ∷ of-word ∷ readName (s 
 -- the line of a read point
 abbrev pub readLine : Set → ReadPoint → List (List ℕ)
 readLine s p = kindLine s (nameBytes (p .name)) (p .kind)
+
+-- `rest` and the name of output k, if its bit is set in the rest word
+unfoldable pub restLine : Set → ℕ → List (List (List ℕ))
+restLine s k = cond (bit k (s .rest)) ((rest-word ∷ outputName (s .outputs) k ∷ []) ∷ []) []
 
 -- ---- the words of a constraint
 
@@ -96,6 +100,7 @@ unfoldable pub shownLines : Set → List (List (List ℕ))
 shownLines s =
     map outputLine (take (s .n) (s .outputs))
     ++ map (readLine s) (take (s .r) (s .reads))
+    ++ joined mostOutputs (restLine s)
     ++ map (neverLine s) (take (s .m) (s .constraints))
     ++ ((end-word ∷ []) ∷ [])
 

@@ -1,4 +1,4 @@
-// A line for each point and each constraint. Names of other points are taken from lists of all names.
+// A line for each point, each output at rest and each constraint. Names of other points are taken from lists of all names.
 use super::literal::put_output_literals;
 use super::literal::put_read_literals;
 use super::place::put_byte;
@@ -14,12 +14,14 @@ use scan::MOST_READS;
 use scan::NAME_PLACES;
 use scan::OutputPoint;
 use scan::ReadPoint;
+use words::bit16;
 ghost use Prim.Native.Nat.{ℕ, _^_, _≤_, _<_};
 ghost use mathlib.Core.List.{[]};
 ghost use lib.ListN.{getD};
 ghost use Rattle.scan.specs.Set.{mostReads, mostOutputs, mostConstraints, noConstraint};
-ghost use Rattle.text.specs.Text.{outputLine, namedReads, parted};
-ghost use Rattle.text.specs.way.Place.{Within, lineBytes, outputsBytes, pastBytes, readLineBy, readsBytes, neverLineBy, constraintsBytes};
+ghost use Rattle.scan.specs.Names.{nameBytes};
+ghost use Rattle.text.specs.Text.{outputLine, namedReads, parted, linesText};
+ghost use Rattle.text.specs.way.Place.{Within, lineBytes, outputsBytes, pastBytes, readLineBy, readsBytes, restIf, restsBytes, neverLineBy, constraintsBytes};
 
 // The line of an output.
 fn put_output(buf: &mut [u8], at: usize, p: OutputPoint) -> usize
@@ -120,6 +122,31 @@ pub fn put_reads<'a>(
     while k < r {
         let p = points[k];
         place = put_read(&mut *buf, place, p, reads, outputs);
+        k = k + 1;
+    }
+    place
+}
+
+// The line of output k, if it is on at rest.
+fn put_rest(buf: &mut [u8], at: usize, on: bool, outputs: &[[u8; NAME_PLACES]], k: usize) -> usize
+    ensures { λ x. ⌜ Within (now (buf .entry)) at (linesText (restIf on (nameBytes (getD (now (outputs .entry)) k [])))) (now (buf .exit)) x ⌝ }
+{
+    if on {
+        let place = put_bytes(&mut *buf, at, b"rest");
+        let end = put_name_at(&mut *buf, place, outputs, k);
+        return put_byte(&mut *buf, end, 0x0A);
+    }
+    at
+}
+
+// The lines of the outputs whose bits are set in the rest word.
+pub fn put_rests(buf: &mut [u8], at: usize, rest: u16, outputs: &[[u8; NAME_PLACES]]) -> usize
+    ensures { λ x. ⌜ Within (now (buf .entry)) at (restsBytes (now (outputs .entry)) rest) (now (buf .exit)) x ⌝ }
+{
+    let mut place = at;
+    let mut k: usize = 0;
+    while k < MOST_OUTPUTS {
+        place = put_rest(&mut *buf, place, bit16(k, rest), outputs, k);
         k = k + 1;
     }
     place

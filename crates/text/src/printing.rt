@@ -2,6 +2,7 @@
 use super::lines::put_constraints;
 use super::lines::put_outputs;
 use super::lines::put_reads;
+use super::lines::put_rests;
 use super::place::put_bytes;
 use scan::Set;
 use shape::names_of_outputs;
@@ -58,9 +59,10 @@ fn put_lines(buf: &mut [u8], set: Set) -> usize
     let output_names = names_of_outputs(outputs);
     let first = put_outputs(&mut *buf, 0, outputs, set.n);
     let next = put_reads(&mut *buf, first, points, set.r, &read_names, &output_names);
+    let then = put_rests(&mut *buf, next, set.rest, &output_names);
     let last = put_constraints(
         &mut *buf,
-        next,
+        then,
         constraints,
         set.m,
         &read_names,

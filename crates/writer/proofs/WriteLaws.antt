@@ -1,7 +1,7 @@
 -- What the proofs of `field` and `writer` share: bytes put into a buffer, loops that put one part behind the other, the parts of the file, and the answer.
 -- Assumes nothing.
 use mathlib.Core.Path.{_≡_, refl, sym, ap, ap₂, subst, _∙_}
-use mathlib.Core.Bool.{true, false}
+use mathlib.Core.Bool.{Bool, true, false, cond}
 use mathlib.Core.List.{List, [], _∷_, _++_, append-assoc, append-nil}
 use Prim.Native.Nat.{ℕ, zero, suc, _+_, _-_, _/_, _%_, _≤_, _<_}
 use native.Mathlib.Nat.{add-zero, zero-add}
@@ -10,7 +10,7 @@ use native.Mathlib.Omega.{arith}
 use lib.ListN.{length, getD, take, drop, set, length-append, length-take, length-drop, take-append-drop}
 use lib.Seq.{take-suc, set-split, sets-eq, take-at, drop-append-add, drop-drop, length-take-le}
 use lib.Dec.{leb, ltb}
-use borrow.Author.Tests.{lt-ltb, le-ltb, le-leb, lt-leb}
+use borrow.Author.Tests.{lt-ltb, le-ltb, le-leb, lt-leb, eq-eqb, ne-eqb}
 use Rattle.words.specs.Loop.{first}
 use Rattle.words.proofs.LoopTurns.{Grows}
 use Rattle.scan.specs.declared.set.Kind.{Kind}
@@ -22,7 +22,7 @@ use Rattle.scan.specs.declared.set.Set.{Set}
 use Rattle.scan.specs.Set.{noRead, noOutput, noConstraint}
 use Rattle.scan.specs.Names.{nameBytes}
 use Rattle.scan.specs.Shape.{wellFormed}
-use Rattle.writer.specs.Write.{fieldOf, kindBytes, readBody, outputBody, literalBody, fieldsOf, writeOf, writeAnswer, bufferAfter}
+use Rattle.writer.specs.Write.{fieldOf, kindBytes, readBody, outputBody, literalBody, fieldsOf, restBody, restField, writeOf, writeAnswer, bufferAfter}
 use Rattle.writer.specs.way.Write.{readFields, outputFields, constraintFields, putAt, Put}
 use Rattle.writer.specs.declared.writer.Written.the-variants.{Wrote, BadSet, Short}
 
@@ -116,6 +116,18 @@ kind-long (PastSensor i) = refl
 pub read-long : (p : ReadPoint) → length (readBody p) ≡ 2 + length (nameBytes (p .name))
 read-long p = omega (arith, length-append (kindBytes (p .kind)) (nameBytes (p .name)), kind-long (p .kind))
 
+-- ---- the rest word
+
+-- a rest word of 0 has no field
+pub rest-none : (rest : ℕ) → rest ≡ 0 → restField rest ≡ []
+unfolding restField
+rest-none rest e = ap (λ (b : Bool). cond b [] (fieldOf 0x06 (restBody rest))) (eq-eqb rest 0 e)
+
+-- any other has
+pub rest-some : (rest : ℕ) → (rest ≡ 0 → ⊥) → restField rest ≡ fieldOf 0x06 (restBody rest)
+unfolding restField
+rest-some rest ne = ap (λ (b : Bool). cond b [] (fieldOf 0x06 (restBody rest))) (ne-eqb rest 0 ne)
+
 -- ---- the fields of a list's elements
 
 module _ {A : Type 0} (tag : ℕ) (body : A → List ℕ) where
@@ -208,13 +220,13 @@ pub constraints-grow : (constraints : List Constraint) (m : ℕ) → m ≤ lengt
 constraints-grow constraints m few = fields-grow 0x04 literalBody constraints m noConstraint few
 
 -- the file's length, part by part
-pub file-long : (s : Set) → length (writeOf s) ≡ 8 + length (readFields (s .reads) (s .r)) + length (outputFields (s .outputs) (s .n)) + length (constraintFields (s .constraints) (s .m))
+pub file-long : (s : Set) → length (writeOf s) ≡ 8 + length (readFields (s .reads) (s .r)) + length (outputFields (s .outputs) (s .n)) + length (restField (s .rest)) + length (constraintFields (s .constraints) (s .m))
 unfolding writeOf
 file-long s = simp length-append (omega arith)
 
 -- ---- one part of the file behind the other
 
--- the file up to its counts, its read points, its outputs and its constraints
+-- the file up to its counts, its read points, its outputs, its rest word and its constraints
 abbrev pub countsPut : Set → List ℕ
 countsPut s = fieldOf 0x01 (s .r ∷ s .n ∷ [])
 
@@ -224,8 +236,11 @@ readsPut s = countsPut s ++ readFields (s .reads) (s .r)
 abbrev pub outputsPut : Set → List ℕ
 outputsPut s = readsPut s ++ outputFields (s .outputs) (s .n)
 
+abbrev pub restPut : Set → List ℕ
+restPut s = outputsPut s ++ restField (s .rest)
+
 abbrev pub constraintsPut : Set → List ℕ
-constraintsPut s = outputsPut s ++ constraintFields (s .constraints) (s .m)
+constraintsPut s = restPut s ++ constraintFields (s .constraints) (s .m)
 
 pub file-ends : (s : Set) → constraintsPut s ++ fieldOf 0x05 [] ≡ writeOf s
 unfolding writeOf
@@ -243,8 +258,11 @@ module _ (s : Set) (room : ℕ) (fits : 0 + length (writeOf s) ≤ room) where
   pub room-constraints : 0 + length (constraintsPut s) ≤ room
   room-constraints = front-room (constraintsPut s) (fieldOf 0x05 []) room room-end
 
+  pub room-rest : 0 + length (restPut s) ≤ room
+  room-rest = front-room (restPut s) (constraintFields (s .constraints) (s .m)) room room-constraints
+
   pub room-outputs : 0 + length (outputsPut s) ≤ room
-  room-outputs = front-room (outputsPut s) (constraintFields (s .constraints) (s .m)) room room-constraints
+  room-outputs = front-room (outputsPut s) (restField (s .rest)) room room-rest
 
   pub room-reads : 0 + length (readsPut s) ≤ room
   room-reads = front-room (readsPut s) (outputFields (s .outputs) (s .n)) room room-outputs

@@ -3,7 +3,7 @@
 use Prim.Native.Nat.{ℕ, _+_, _/_, _%_}
 use mathlib.Core.Bool.{cond, not, _&&_}
 use mathlib.Core.List.{List, [], _∷_, _++_}
-use lib.Dec.{leb, ltb}
+use lib.Dec.{eqb, leb, ltb}
 use lib.ListN.{length, take, drop}
 use Rattle.words.specs.Loop.{joined}
 use Rattle.words.specs.Word.{bit}
@@ -58,12 +58,21 @@ unfoldable pub fieldsOf : {A : Type 0} → ℕ → (A → List ℕ) → List A �
 fieldsOf tag body [] = []
 fieldsOf tag body (p ∷ ps) = fieldOf tag (body p) ++ fieldsOf tag body ps
 
--- one 0x01, r of 0x02, n of 0x03, m of 0x04, one 0x05
+-- the body of the rest word: two bytes, the high one first
+abbrev pub restBody : ℕ → List ℕ
+restBody rest = rest / 256 ∷ rest % 256 ∷ []
+
+-- the field of the rest word; a rest word of 0 is never written
+unfoldable pub restField : ℕ → List ℕ
+restField rest = let field = fieldOf 0x06 (restBody rest) in cond (eqb rest 0) [] field
+
+-- one 0x01, r of 0x02, n of 0x03, the rest word, m of 0x04, one 0x05
 unfoldable pub writeOf : Set → List ℕ
 writeOf s =
     fieldOf 0x01 (s .r ∷ s .n ∷ [])
     ++ fieldsOf 0x02 readBody (take (s .r) (s .reads))
     ++ fieldsOf 0x03 outputBody (take (s .n) (s .outputs))
+    ++ restField (s .rest)
     ++ fieldsOf 0x04 literalBody (take (s .m) (s .constraints))
     ++ fieldOf 0x05 []
 

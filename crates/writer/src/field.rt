@@ -3,6 +3,7 @@ use header::TAG_CONSTRAINT;
 use header::TAG_COUNTS;
 use header::TAG_OUTPUT;
 use header::TAG_READ;
+use header::TAG_REST;
 use scan::Constraint;
 use scan::Kind;
 use scan::MOST_READS;
@@ -16,7 +17,7 @@ ghost use Prim.Native.Nat.{_+_, _*_, _/_, _%_, _^_, _≤_, _<_};
 ghost use lib.ListN.{length};
 ghost use Rattle.scan.specs.Set.{mostReads, mostOutputs, namePlaces};
 ghost use Rattle.scan.specs.Names.{nameBytes};
-ghost use Rattle.writer.specs.Write.{fieldOf, kindBytes, readBody, outputBody, literalBody};
+ghost use Rattle.writer.specs.Write.{fieldOf, kindBytes, readBody, outputBody, literalBody, restField};
 ghost use Rattle.writer.specs.way.Write.{FewPoints, signedBy, literalsAt, Put};
 
 // The length of a constraint's body: two bytes for each literal.
@@ -105,6 +106,18 @@ pub fn put_output(buf: &mut [u8], at: usize, p: OutputPoint) -> usize
     let len = name_length(name);
     let body = put_header(&mut *buf, at, TAG_OUTPUT, len);
     put_name(&mut *buf, body, name, len)
+}
+
+// The field of the rest word; nothing where it is 0.
+pub fn put_rest(buf: &mut [u8], at: usize, rest: u16) -> usize
+    requires { ⌜ at + length (restField rest) ≤ length (now buf) ⌝ }
+    ensures { λ r. ⌜ Put (now (buf .entry)) at (restField rest) (now (buf .exit)) r ⌝ }
+{
+    if rest == 0 {
+        return at;
+    }
+    let body = put_header(&mut *buf, at, TAG_REST, 2);
+    put_two(&mut *buf, body, (rest / 256) as u8, (rest % 256) as u8)
 }
 
 // The number of a literal's point, with the top bit set where it is negated.

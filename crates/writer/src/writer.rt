@@ -5,6 +5,7 @@ use super::field::put_counts;
 use super::field::put_header;
 use super::field::put_output;
 use super::field::put_read;
+use super::field::put_rest;
 use header::TAG_END;
 use scan::Constraint;
 use scan::MOST_CONSTRAINTS;
@@ -21,7 +22,7 @@ ghost use Prim.Native.Nat.{ℕ, _+_, _*_, _≤_, _<_};
 ghost use lib.ListN.{length, getD};
 ghost use Rattle.scan.specs.Set.{mostReads, mostOutputs, mostConstraints, namePlaces, noConstraint};
 ghost use Rattle.scan.specs.Shape.{wellFormed};
-ghost use Rattle.writer.specs.Write.{writeOf, writeAnswer, bufferAfter};
+ghost use Rattle.writer.specs.Write.{restField, writeOf, writeAnswer, bufferAfter};
 ghost use Rattle.writer.specs.way.Write.{readFields, outputFields, FewPoints, constraintFields, putAt, Put};
 
 // The length of the file; or that the set is not well formed; or the length needed, where the buffer is shorter.
@@ -58,6 +59,7 @@ fn file_length(set: Set) -> usize
     8
         + reads_length(reads, set.r)
         + outputs_length(outputs, set.n)
+        + rest_length(set.rest)
         + constraints_length(constraints, set.m)
 }
 
@@ -89,6 +91,13 @@ fn outputs_length(outputs: [OutputPoint; MOST_OUTPUTS], n: usize) -> usize
         j = j + 1;
     }
     len
+}
+
+// The rest word has a field where it is not 0.
+fn rest_length(rest: u16) -> usize
+    ensures { λ x. ⌜ (x ≡ length (restField rest)) × (x ≤ 5) ⌝ }
+{
+    if rest == 0 { 0 } else { 5 }
 }
 
 fn constraints_length(constraints: [Constraint; MOST_CONSTRAINTS], m: usize) -> usize
@@ -165,7 +174,8 @@ fn put_file(buf: &mut [u8], set: Set)
     let constraints = set.constraints;
     let reads_at = put_counts(&mut *buf, 0, set.r, set.n);
     let outputs_at = put_reads(&mut *buf, reads_at, reads, set.r);
-    let constraints_at = put_outputs(&mut *buf, outputs_at, outputs, set.n);
+    let rest_at = put_outputs(&mut *buf, outputs_at, outputs, set.n);
+    let constraints_at = put_rest(&mut *buf, rest_at, set.rest);
     let end = put_constraints(&mut *buf, constraints_at, constraints, set.m);
     put_header(&mut *buf, end, TAG_END, 0);
 }

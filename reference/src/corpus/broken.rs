@@ -1,6 +1,6 @@
 //! Sets made by hand, as they lie in memory: some well formed, most of them
 //! broken in one place, clause by clause, at first and last places and right
-//! beyond the counts.
+//! beyond the counts. All of them have rest word 0; `rests` has others.
 
 use super::long::longest;
 use super::names::nearly;
@@ -12,7 +12,7 @@ use crate::file::load;
 use crate::making::{scans, set, Recipe};
 use crate::raw::{
     constraint_at, laid_out, output_at, put, read_at, CONSTRAINTS, NAME, NEGATED_OUTPUTS,
-    NEGATED_READS, OUTPUTS, PLAIN_OUTPUTS, PLAIN_READS, RANKS, READS,
+    NEGATED_READS, OUTPUTS, PLAIN_OUTPUTS, PLAIN_READS, RANKS, READS, REST,
 };
 use crate::records::{Case, List, SET_BYTES};
 use crate::set::{Kind, Literal, Point, Set};
@@ -93,11 +93,19 @@ pub fn cases(chance: &mut Chance) -> Vec<Case> {
     for _ in 0..BY_CHANCE {
         let set = set(chance, Recipe::Bent, 5, 4, 5);
         let mut raw = laid_out(&set);
-        let at = chance.below(SET_BYTES);
+        let at = beside_rest(chance.below(SET_BYTES - 2));
         raw[at] ^= 1 << chance.below(8);
         cases.push(case(chance, &set, raw));
     }
     cases
+}
+
+/// The place of a byte by its number among those that are not the rest word's.
+fn beside_rest(number: usize) -> usize {
+    match number {
+        0..REST => number,
+        _ => number + 2,
+    }
 }
 
 fn p() -> Set {
@@ -385,9 +393,15 @@ fn bad_ranks(base: &Base) -> Vec<Vec<u8>> {
     raws
 }
 
-/// Sets of one byte all over, and P with all three counts too large.
+/// Sets of one byte all over but for the rest word, and P with all three counts
+/// too large.
 fn whole() -> Vec<Vec<u8>> {
-    let mut raws: Vec<Vec<u8>> = [0, 1, b'a', 255].map(|b| vec![b; SET_BYTES]).to_vec();
+    let all_over = |byte| {
+        let mut raw = vec![byte; SET_BYTES];
+        put(&mut raw, REST, &[0, 0]);
+        raw
+    };
+    let mut raws: Vec<Vec<u8>> = [0, 1, b'a', 255].map(all_over).to_vec();
     let p = Base::new(p());
     raws.push(p.with(0, &[255; 6]));
     raws.push(p.with(0, &[0; 6]));

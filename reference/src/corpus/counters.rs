@@ -112,6 +112,7 @@ pub fn counting(kinds: &[Kind], n: usize, constraints: Vec<Constraint>) -> Set {
     Set {
         reads: kinds.iter().enumerate().map(read).collect(),
         outputs: (0..n).map(|k| format!("c{k}").into_bytes()).collect(),
+        rest: Vec::new(),
         constraints,
     }
 }

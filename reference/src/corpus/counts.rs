@@ -4,7 +4,8 @@
 use super::marks::{sorts, Pairs};
 use super::misses;
 use super::skips;
-use super::texts::LONGEST;
+use super::starts;
+use super::{long, texts};
 use crate::answer::answer;
 use crate::file::load;
 use crate::filter::{holds, pass, start_vector};
@@ -20,8 +21,8 @@ pub type Counts = BTreeMap<String, usize>;
 /// The most scans behind a state.
 pub const MOST_SCANS: usize = 681;
 
-/// What a corpus must have, and how many at least; `skips` and `misses` have
-/// more of it.
+/// What a corpus must have, and how many at least; `skips`, `misses` and
+/// `starts` have more of it.
 const NEEDED: &[(&str, usize)] = &[
     ("F cases", 5000),
     ("F ACCEPT", 1000),
@@ -51,10 +52,12 @@ const NEEDED: &[(&str, usize)] = &[
     ("F TEXT of 600 bytes", 1),
     ("F TEXT of 601 bytes", 1),
     ("F TEXT as long as can be", 1),
+    ("F TEXT as long as can be at rest word 0", 1),
     ("F files whose first 4096 bytes are refused otherwise", 10),
     ("F lists of 100 scans or more", 12),
     ("F lists of scans that are not used", 2),
     ("F longest files", 2),
+    ("F longest files at rest word 0", 2),
     ("F walks of more than 63 passes", 30),
     ("F walks of 4095 passes", 1),
     ("F SCANS that ends at mark 0", 10),
@@ -204,6 +207,7 @@ pub fn missing(counts: &Counts) -> Vec<String> {
     let enough = |key: &str, least: usize| counts.get(key).is_some_and(|&count| count >= least);
     needed
         .chain(misses::needed())
+        .chain(starts::needed())
         .filter(|(key, least)| !enough(key, *least))
         .map(|(key, _)| key)
         .collect()
@@ -291,7 +295,8 @@ fn sort_of_text(length: &str) -> &'static str {
     match length.parse() {
         Ok(600) => "TEXT of 600 bytes",
         Ok(601) => "TEXT of 601 bytes",
-        Ok(LONGEST) => "TEXT as long as can be",
+        Ok(texts::LONGEST) => "TEXT as long as can be",
+        Ok(texts::LONGEST_AT_REST_0) => "TEXT as long as can be at rest word 0",
         Ok(length) if length < 600 => "TEXT in full",
         _ => "TEXT as a sum",
     }
@@ -323,6 +328,7 @@ fn sorts_of_case(case: &Case, answer: &str) -> Vec<String> {
             sorts.extend(sorts_from_start(file, scans, answer));
             sorts.extend(load(file).iter().flat_map(skips::sorts));
             sorts.extend(load(file).iter().flat_map(misses::sorts));
+            sorts.extend(sorts_of_rest(file, answer));
             sorts
         }
         Case::State { file, list } => {
@@ -366,8 +372,8 @@ fn sorts_of_file(file: &[u8], scans: &[Words], answer: &str) -> Vec<&'static str
             sorts.push("walks of 4095 passes");
         }
     }
-    if file.len() == super::long::LONGEST && answer.contains("LOADED") {
-        sorts.push("longest files");
+    if answer.contains("LOADED") {
+        sorts.extend(sort_of_length(file));
     }
     let lines: Vec<&str> = answer.lines().collect();
     if lines[1].starts_with("LOAD ") && lines[0] != format!("JUDGE {}", lines[1]) {
@@ -382,6 +388,14 @@ fn sorts_of_file(file: &[u8], scans: &[Words], answer: &str) -> Vec<&'static str
     sorts
 }
 
+fn sort_of_length(file: &[u8]) -> Option<&'static str> {
+    match file.len() {
+        long::LONGEST => Some("longest files"),
+        long::LONGEST_AT_REST_0 => Some("longest files at rest word 0"),
+        _ => None,
+    }
+}
+
 /// The passes that an answer reports.
 fn passes(answer: &str) -> Vec<u32> {
     let line = answer.lines().find(|line| line.starts_with("SCANS"));
@@ -394,8 +408,22 @@ fn passes(answer: &str) -> Vec<u32> {
 /// What the scans of an accepted file count as by the first that is sent.
 fn sorts_from_start(file: &[u8], scans: &[Words], answer: &str) -> Vec<String> {
     match load(file) {
-        Ok(set) if answer.contains("SCANS") => sorts(&State::fresh(&set), scans),
+        Ok(set) if answer.contains("SCANS") => {
+            let mut sorts_of = sorts(&State::fresh(&set), scans);
+            sorts_of.extend(starts::from_start(&set, scans));
+            sorts_of
+        }
         _ => Vec::new(),
+    }
+}
+
+/// What a file counts as by its rest word, or by the field that is refused.
+fn sorts_of_rest(file: &[u8], answer: &str) -> Vec<String> {
+    match load(file) {
+        Ok(set) => starts::of_set(&set, answer),
+        Err(refusal) => starts::of_refused(file, refusal.number, refusal.offset)
+            .into_iter()
+            .collect(),
     }
 }
 
@@ -414,6 +442,7 @@ fn sorts_of_list(set: Option<Set>, list: &Option<List>) -> Vec<String> {
     if let Some(set) = set {
         let state = State::by_hand(&set, first);
         sorts_of.extend(sorts(&state, scans));
+        sorts_of.extend(starts::by_hand(&state, scans));
         sorts_of.extend(sorts_of_33(state, scans));
     }
     sorts_of

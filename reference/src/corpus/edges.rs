@@ -35,7 +35,8 @@ const BOTH: &[&str] = &[
     "mark 0, none sent",
 ];
 
-/// Sorts that no list from a start can be of.
+/// Sorts that no list from a start of these sets, which have rest word 0, can
+/// be of.
 const BY_HAND: &[&str] = &[
     "first sent, other if past sensors read the state's word",
     "first sent, other if past outputs read 0",
@@ -49,12 +50,12 @@ const BY_HAND: &[&str] = &[
 const EACH: usize = 12;
 
 /// How many of each sort are wanted still.
-struct Wanted {
+pub struct Wanted {
     left: BTreeMap<&'static str, usize>,
 }
 
 impl Wanted {
-    fn new(sorts: &[&[&'static str]]) -> Wanted {
+    pub fn new(sorts: &[&[&'static str]]) -> Wanted {
         let sorts = sorts.iter().copied().flatten();
         Wanted {
             left: sorts.map(|&sort| (sort, EACH)).collect(),
@@ -62,7 +63,7 @@ impl Wanted {
     }
 
     /// True if a list is of a sort that is wanted; it is counted then.
-    fn takes(&mut self, sorts: &[String]) -> bool {
+    pub fn takes(&mut self, sorts: &[String]) -> bool {
         let mut taken = false;
         for sort in sorts {
             if let Some(left) = self.left.get_mut(sort.as_str()) {
@@ -73,7 +74,7 @@ impl Wanted {
         taken
     }
 
-    fn is_done(&self) -> bool {
+    pub fn is_done(&self) -> bool {
         self.left.values().all(|&left| left == 0)
     }
 }
@@ -222,22 +223,27 @@ pub fn stuck(guard: &[Literal], outputs: &[usize]) -> Vec<Constraint> {
 /// A few scans, up to two of them sure to be refused and first; now and then
 /// none but these.
 fn refused_first(chance: &mut Chance, set: &Set) -> Vec<Words> {
-    let (r, n) = (set.reads.len(), set.outputs.len());
     let count = match chance.below(8) {
         0 => 0,
         _ => chance.between(2, 4),
     };
     let refused = chance.below(3);
     let mut list = scans(chance, set, refused + count);
-    for (sensor, request) in &mut list[..refused] {
-        let past = (0..r).find(|&k| set.reads[k].kind != Kind::Sensor);
-        match chance.below(3) {
-            0 => *sensor |= 1 << r,
-            1 => *sensor |= 1 << past.unwrap_or(r),
-            _ => *request |= 1 << n,
-        }
+    for words in &mut list[..refused] {
+        spoil(chance, set, words);
     }
     list
+}
+
+/// Adds a bit to the words of a scan by which it is refused.
+pub fn spoil(chance: &mut Chance, set: &Set, words: &mut Words) {
+    let (r, n) = (set.reads.len(), set.outputs.len());
+    let past = (0..r).find(|&k| set.reads[k].kind != Kind::Sensor);
+    match chance.below(3) {
+        0 => words.0 |= 1 << r,
+        1 => words.0 |= 1 << past.unwrap_or(r),
+        _ => words.1 |= 1 << n,
+    }
 }
 
 #[cfg(test)]

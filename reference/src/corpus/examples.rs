@@ -5,12 +5,13 @@ use crate::file::load;
 use crate::making::scans;
 use crate::records::Case;
 
-const EXAMPLES: [&[u8]; 5] = [
+const EXAMPLES: [&[u8]; 6] = [
     include_bytes!("../../../examples/p.set"),
     include_bytes!("../../../examples/parcel-hall.set"),
     include_bytes!("../../../examples/sorting.set"),
     include_bytes!("../../../examples/sorting-mended.set"),
     include_bytes!("../../../examples/pusher.set"),
+    include_bytes!("../../../examples/brake.set"),
 ];
 
 const SCANS_EACH: usize = 60;
@@ -48,6 +49,7 @@ mod tests {
             "JUDGE NOVECTOR 176",
             "JUDGE ACCEPT 16 7 22",
             "JUDGE ACCEPT 3 2 3",
+            "JUDGE ACCEPT 2 2 4",
         ];
         assert_eq!(lines, said);
     }

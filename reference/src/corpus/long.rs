@@ -1,8 +1,8 @@
 //! Long files: the longest good one, and files of more than 4,096 bytes.
 //!
-//! A good file has at most 3,568 bytes, so that a longer one is refused at a
+//! A good file has at most 3,573 bytes, so that a longer one is refused at a
 //! field that begins there or before, and the loader's answer to its front
-//! changes only once behind byte 3,568: where that field ends. No one file tells
+//! changes only once behind byte 3,573: where that field ends. No one file tells
 //! fronts of 4,095, 4,096 and 4,097 bytes apart; two files do, one with a field
 //! that ends at byte 4,096 and one with a field that ends a byte later.
 
@@ -11,15 +11,16 @@ use crate::file::{put_field, write};
 use crate::records::Case;
 use crate::set::{Constraint, Kind, Literal, Point, ReadPoint, Set};
 
-/// The bytes of the longest good file.
-pub const LONGEST: usize = 3568;
+/// The bytes of the longest good file, and of the longest without a rest word.
+pub const LONGEST: usize = 3573;
+pub const LONGEST_AT_REST_0: usize = 3568;
 
 /// The read word of the longest files' constraints.
-const WORD: usize = 0x2B5D;
+pub const WORD: usize = 0x2B5D;
 
-/// 16 read points, 8 outputs and 64 constraints of 24 literals, whose read
-/// literals are true at one word alone. There vector k leads to k+1, to 64; or
-/// 63 leads back to 0.
+/// 16 read points, 8 outputs, no rest word and 64 constraints of 24 literals,
+/// whose read literals are true at one word alone. There vector k leads to k+1,
+/// to 64; or 63 leads back to 0.
 pub fn longest(word: usize, turns: bool) -> Set {
     let read = |k: usize| ReadPoint {
         kind: match k {
@@ -34,6 +35,7 @@ pub fn longest(word: usize, turns: bool) -> Set {
     Set {
         reads: (0..16).map(read).collect(),
         outputs: (0..8).map(|k| format!("output.{k}").into_bytes()).collect(),
+        rest: Vec::new(),
         constraints: (0..64).map(step).collect(),
     }
 }
@@ -57,11 +59,11 @@ fn leading(word: usize, from: usize, to: usize) -> Constraint {
     }
 }
 
-/// The longest file without its end field, then a field that ends at an
+/// One of the longest files without its end field, then a field that ends at an
 /// offset.
-fn full_then(tag: u8, end: usize) -> Vec<u8> {
-    let mut file = write(&longest(WORD, false));
-    file.truncate(LONGEST - 3);
+pub fn full_then(full: &Set, tag: u8, end: usize) -> Vec<u8> {
+    let mut file = write(full);
+    file.truncate(file.len() - 3);
     field_to(&mut file, tag, end);
     file
 }
@@ -75,9 +77,10 @@ fn field_to(file: &mut Vec<u8>, tag: u8, end: usize) {
 /// The verdict program's input. Byte 3,565 begins an end field that runs to
 /// byte 4,097: the program, which has 4,096 bytes, answers 1 there, and one
 /// that takes more 4. One that takes less than the field's first byte answers 1
-/// at an earlier field. The bytes behind make a second 4,096 bytes full.
+/// at an earlier field. (With a rest word that byte would be 3,570, and no file
+/// has a later one.) The bytes behind make a second 4,096 bytes full.
 pub fn program_input() -> Vec<u8> {
-    let mut file = full_then(5, 4097);
+    let mut file = full_then(&longest(WORD, false), 5, 4097);
     file.resize(8300, 0);
     file
 }
@@ -92,23 +95,24 @@ fn scans() -> Vec<(u32, u16)> {
     past.into_iter().chain(pairs.concat()).collect()
 }
 
-/// The longest files, and files of more than 4,096 bytes.
+/// The longest files without a rest word, and files of more than 4,096 bytes.
 pub fn cases() -> Vec<Case> {
     let case = |file: Vec<u8>, scans: Vec<(u32, u16)>| Case::File { file, scans };
     let mut cases = Vec::new();
     for turns in [false, true] {
         cases.push(case(write(&longest(WORD, turns)), scans()));
     }
-    let mut more = write(&longest(WORD, false));
+    let full = longest(WORD, false);
+    let mut more = write(&full);
     more.push(5);
     cases.push(case(more, scans()));
     cases.push(case(program_input(), Vec::new()));
     for tag in [3, 4, 5] {
         for end in [4095, 4096, 4097] {
-            cases.push(case(full_then(tag, end), Vec::new()));
+            cases.push(case(full_then(&full, tag, end), Vec::new()));
         }
     }
-    cases.push(case(full_then(5, 4096 + 256), Vec::new()));
+    cases.push(case(full_then(&full, 5, 4096 + 256), Vec::new()));
     for (kept, tag) in [(0, 1), (5, 2), (13, 3), (22, 4), (36, 5), (36, 6)] {
         let mut file = P[..kept].to_vec();
         field_to(&mut file, tag, 4097);
@@ -134,7 +138,7 @@ mod tests {
         for (turns, verdict) in [(false, Verdict::Accepted), (true, Verdict::NoEnd(word, 0))] {
             let set = longest(WORD, turns);
             let file = write(&set);
-            assert_eq!(file.len(), LONGEST);
+            assert_eq!(file.len(), LONGEST_AT_REST_0);
             assert_eq!(judge(&set), verdict);
             assert_eq!(load(&file), Ok(set));
         }
@@ -159,7 +163,7 @@ mod tests {
     #[test]
     fn fields_that_end_near_byte_4096() {
         for (end, cut) in [(4095, 4), (4096, 4), (4097, 1)] {
-            let file = full_then(5, end);
+            let file = full_then(&longest(WORD, false), 5, end);
             assert_eq!(line(&file), format!("LOAD {cut} 3565\n"));
         }
     }

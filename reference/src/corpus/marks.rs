@@ -9,23 +9,28 @@ use crate::set::{Constraint, Kind, Point, Set};
 use std::collections::BTreeMap;
 
 /// One scan of a list: the state before it, its words and its answer.
-struct Turn {
-    before: State,
-    words: Words,
-    answer: Result<Sent, ScanRefusal>,
+pub struct Turn {
+    pub before: State,
+    pub words: Words,
+    pub answer: Result<Sent, ScanRefusal>,
 }
 
 impl Turn {
     /// True if the answer would be another from a state that is changed so.
-    fn other(&self, change: impl FnOnce(&mut State)) -> bool {
+    pub fn other(&self, change: impl FnOnce(&mut State)) -> bool {
         let mut state = self.before.clone();
         change(&mut state);
         scan(&mut state, self.words.0, self.words.1) != self.answer
     }
 
     /// True if the answer would be another if past sensors read this word.
-    fn other_if_read(&self, past_sensor: u32) -> bool {
+    pub fn other_if_read(&self, past_sensor: u32) -> bool {
         self.other(|state| read(state, past_sensor))
+    }
+
+    /// True if the answer would be another if past outputs read this word.
+    pub fn other_if_past(&self, past_output: u16) -> bool {
+        self.other(|state| state.past_output = past_output)
     }
 }
 
@@ -35,7 +40,8 @@ fn read(state: &mut State, past_sensor: u32) {
     state.accepted = true;
 }
 
-fn turns(first: &State, scans: &[Words]) -> Vec<Turn> {
+/// The scans of a list from a state.
+pub fn turns(first: &State, scans: &[Words]) -> Vec<Turn> {
     let mut state = first.clone();
     let turn = |&words: &Words| {
         let before = state.clone();
@@ -121,13 +127,10 @@ fn sorts_of_first(first: &Turn) -> Vec<String> {
             "only the first past sensor read as now",
             first.other_if_read(of_first_past(set, first.words.0)),
         ),
-        (
-            "past outputs read 0",
-            first.other(|state| state.past_output = 0),
-        ),
+        ("past outputs read 0", first.other_if_past(0)),
         (
             "past outputs read 1",
-            first.other(|state| state.past_output = (1 << set.outputs.len()) - 1),
+            first.other_if_past((1 << set.outputs.len()) - 1),
         ),
     ];
     let other = readings.iter().filter(|(_, other)| *other);

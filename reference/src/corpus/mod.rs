@@ -13,8 +13,11 @@ pub mod misses;
 pub mod names;
 pub mod order;
 pub mod paths;
+pub mod rest_files;
+pub mod rests;
 pub mod sizes;
 pub mod skips;
+pub mod starts;
 pub mod states;
 pub mod texts;
 
@@ -44,7 +47,13 @@ pub fn corpus(seed: u64) -> Vec<Case> {
     cases.extend(edges::cases(&mut part(8)));
     cases.extend(skipping(seed));
     cases.extend(order::others(&mut part(12)));
+    cases.extend(resting(seed));
     cases
+}
+
+/// The part of the sets with a rest word.
+pub fn resting(seed: u64) -> Vec<Case> {
+    rests::cases(&mut part(seed, 13))
 }
 
 /// The parts that show what a verdict skips or misses wrongly.

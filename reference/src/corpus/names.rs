@@ -30,7 +30,7 @@ pub fn cases(chance: &mut Chance) -> Vec<Case> {
 
 /// Own names of all points, some of them bent in every way, and names that no
 /// point bears.
-fn names(chance: &mut Chance, set: &Set) -> Vec<Vec<u8>> {
+pub fn names(chance: &mut Chance, set: &Set) -> Vec<Vec<u8>> {
     let mut own: Vec<Vec<u8>> = set.reads.iter().map(|point| point.name.clone()).collect();
     own.extend(set.outputs.iter().cloned());
     let mut names = own.clone();

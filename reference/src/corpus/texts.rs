@@ -6,10 +6,12 @@ use crate::file::write;
 use crate::records::Case;
 use crate::set::{Constraint, Kind, Literal, Point, ReadPoint, Set};
 
-/// The bytes of the longest text.
-pub const LONGEST: usize = 33_660;
+/// The bytes of the longest text, and of the longest without a rest word.
+pub const LONGEST: usize = 33_828;
+pub const LONGEST_AT_REST_0: usize = 33_660;
 
-/// Files whose texts have 599, 600, 601 and the most bytes, and odd names.
+/// Files whose texts have 599, 600, 601 and the most bytes without a rest word,
+/// and odd names.
 pub fn cases() -> Vec<Case> {
     let near = [(50, 2), (37, 10), (42, 7)];
     let mut sets = near.map(|(plain, ranked)| lone(plain, ranked)).to_vec();
@@ -25,7 +27,7 @@ pub fn cases() -> Vec<Case> {
 
 /// One output, with so many constraints that show no rank and that show one:
 /// 13 bytes, 11 for each of the first and 18 for each of the others.
-fn lone(plain_ones: usize, ranked: usize) -> Set {
+pub fn lone(plain_ones: usize, ranked: usize) -> Set {
     let constraint = |rank| Constraint {
         literals: vec![Literal {
             rank,
@@ -61,6 +63,7 @@ pub fn wordiest() -> Set {
         outputs: (0..12)
             .map(|k| format!("output{k:02}").into_bytes())
             .collect(),
+        rest: Vec::new(),
         constraints: vec![constraint; 64],
     }
 }
@@ -128,7 +131,7 @@ mod tests {
         for (plain, ranked, length) in lengths {
             assert_eq!(text(&lone(plain, ranked)).len(), length);
         }
-        assert_eq!(text(&wordiest()).len(), LONGEST);
+        assert_eq!(text(&wordiest()).len(), LONGEST_AT_REST_0);
     }
 
     #[test]

@@ -5,26 +5,27 @@ use Prim.Native.Nat.{ℕ, _+_}
 use mathlib.Core.Path.{_≡_}
 use mathlib.Core.Bool.{Bool, false, cond, not}
 use mathlib.Core.List.{List, map}
-use lib.Dec.{ltb}
+use lib.Dec.{ltb, eqb}
 use lib.ListN.{length, getD, drop}
 use Rattle.scan.specs.declared.set.ReadPoint.{ReadPoint}
 use Rattle.scan.specs.declared.set.OutputPoint.{OutputPoint}
 use Rattle.scan.specs.declared.set.Constraint.{Constraint}
 use Rattle.scan.specs.declared.set.Set.{Set}
-use Rattle.scan.specs.Set.{zeroName, zeroRead, withCounts, withReads, withOutputs, withConstraints}
+use Rattle.scan.specs.Set.{zeroName, zeroRead, withCounts, withReads, withOutputs, withConstraints, withRest}
 use Rattle.scan.specs.Shape.{isSensor}
 use Rattle.header.specs.declared.header.Header.{Header}
 use Rattle.header.specs.declared.header.Header.the-variants.{Refused as Stopped, Field}
-use Rattle.header.specs.Header.{bodyOf}
+use Rattle.header.specs.Header.{headerOf, bodyOf}
 use Rattle.header.specs.declared.numbers.Taken.{Taken}
 use Rattle.header.specs.declared.numbers.Taken.the-variants.{Refused as Denied, Good}
 use Rattle.loader.specs.declared.point.NameField.{NameField}
 use Rattle.loader.specs.declared.point.ReadField.{ReadField}
 use Rattle.loader.specs.declared.step.ReadStep.{ReadStep}
 use Rattle.loader.specs.declared.step.NameStep.{NameStep}
+use Rattle.loader.specs.declared.rest.RestStep.{RestStep}
 use Rattle.loader.specs.declared.loader.Progress.{Progress}
 use Rattle.loader.specs.declared.loader.Progress.the-variants.{At, Refused}
-use Rattle.loader.specs.Load.{Loading, refusal, goingOn, ofCounts}
+use Rattle.loader.specs.Load.{Loading, refusal, goingOn, ofCounts, restWord, restGood}
 
 -- ---- pasts
 
@@ -63,6 +64,21 @@ nameStep s at got (Stopped number) = refusedName number at
 nameStep s at got (Field tag len) =
     record { progress = placeBehind at (at + 3 + len) (got (bodyOf (drop at s) len) .taken); name = got (bodyOf (drop at s) len) .name }
 
+-- a refused rest word
+abbrev pub refusedRest : ℕ → ℕ → RestStep
+refusedRest number at = record { progress = Refused number at; rest = 0 }
+
+-- the step over the rest word's field
+abbrev pub restStep : List ℕ → ℕ → ℕ → Header → RestStep
+restStep s at n (Stopped number) = refusedRest number at
+restStep s at n (Field tag len) =
+    record { progress = placeBehind at (at + 3 + len) (restGood (restWord (bodyOf (drop at s) len)) n); rest = restWord (bodyOf (drop at s) len) }
+
+-- that step, if the field stands here
+unfoldable pub restPlace : List ℕ → ℕ → ℕ → RestStep
+restPlace s at n =
+    let given = restStep s at n (headerOf (drop at s) 6 0) in cond (eqb (getD (drop at s) 0 0) 6) given (record { progress = At at; rest = 0 })
+
 -- ---- the set so far
 
 -- a load that has come so far, with this set where it goes on
@@ -74,10 +90,14 @@ reached (Refused number at) set = refusal number at
 abbrev pub endPlace : List ℕ → ℕ → Progress
 endPlace s at = cond (ltb (at + 3) (length s)) (Refused 12 (at + 3)) (At (at + 3))
 
--- a set of r read points and n outputs, with none of its constraints loaded yet
+-- a set of r read points and n outputs, with neither its rest word nor its constraints loaded yet
 abbrev pub pointsSet : ℕ → ℕ → List ReadPoint → List OutputPoint → Set
 pointsSet r n reads outputs = withOutputs (withReads (ofCounts r n) reads) outputs
 
+-- the set with its rest word
+abbrev pub restedSet : ℕ → ℕ → ℕ → List ReadPoint → List OutputPoint → Set
+restedSet r n rest reads outputs = withRest (pointsSet r n reads outputs) rest
+
 -- the set with m constraints, too
-abbrev pub wholeSet : ℕ → ℕ → ℕ → List ReadPoint → List OutputPoint → List Constraint → Set
-wholeSet r n m reads outputs constraints = withCounts (withConstraints (pointsSet r n reads outputs) constraints) r n m
+abbrev pub wholeSet : ℕ → ℕ → ℕ → ℕ → List ReadPoint → List OutputPoint → List Constraint → Set
+wholeSet r n m rest reads outputs constraints = withCounts (withConstraints (restedSet r n rest reads outputs) constraints) r n m

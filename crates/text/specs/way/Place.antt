@@ -16,7 +16,7 @@ use Rattle.scan.specs.declared.set.OutputPoint.{OutputPoint}
 use Rattle.scan.specs.declared.set.Constraint.{Constraint}
 use Rattle.scan.specs.Set.{mostReads, mostOutputs, outs}
 use Rattle.scan.specs.Names.{nameBytes}
-use Rattle.text.specs.Grammar.{sensor-word, past-word, of-word, never-word}
+use Rattle.text.specs.Grammar.{sensor-word, past-word, of-word, rest-word, never-word}
 use Rattle.text.specs.Text.{outputLine, stateWord, rankWords, behind, namedBelow, namedReads, several, spacedWords, parted, linesText}
 
 -- no text has more bytes
@@ -77,6 +77,18 @@ readLineBy reads outputs p = kindLineBy reads outputs (nameBytes (p .name)) (p .
 -- the lines of the first r read points
 abbrev pub readsBytes : List (List ℕ) → List (List ℕ) → List ReadPoint → ℕ → List ℕ
 readsBytes reads outputs points r = linesText (map (readLineBy reads outputs) (take r points))
+
+-- `rest` and the name of an output, if it is on at rest
+abbrev pub restIf : Bool → List ℕ → List (List (List ℕ))
+restIf on name = cond on ((rest-word ∷ name ∷ []) ∷ []) []
+
+-- the line of output k, if its bit is set in the rest word
+unfoldable pub restLineBy : List (List ℕ) → ℕ → ℕ → List (List (List ℕ))
+restLineBy outputs rest k = restIf (bit k rest) (nameBytes (getD outputs k []))
+
+-- the lines of the outputs at rest
+abbrev pub restsBytes : List (List ℕ) → ℕ → List ℕ
+restsBytes outputs rest = linesText (joined mostOutputs (restLineBy outputs rest))
 
 -- the literals of a constraint's read points, which have no ranks
 abbrev pub readLiteralsBy : List (List ℕ) → Constraint → List (List ℕ)

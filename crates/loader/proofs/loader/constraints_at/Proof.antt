@@ -12,7 +12,7 @@ use Rattle.scan.specs.Set.{mostConstraints, zeroSet}
 use Rattle.header.specs.declared.header.Header.the-variants.{Field}
 use Rattle.header.specs.Header.{headerOf}
 use Rattle.loader.specs.Load.{withConstraint, constraintsFrom}
-use Rattle.loader.specs.way.Load.{reached, pointsSet, wholeSet}
+use Rattle.loader.specs.way.Load.{reached, restedSet, wholeSet}
 use Rattle.header.proofs.HeaderLaws.{field-within, constraint-length, front-place, front-header}
 use Rattle.loader.proofs.LoadTurns.{constraints-stopped, constraints-end, constraints-by}
 use borrow.Author.Needs.{needs}
@@ -22,8 +22,8 @@ use Rattle.loader.proofs.loader.constraints_at.Tie as tie
 abbrev Inv-loop : tie.InvT-loop
 Inv-loop s at r n constraints₀ next₀ m₀ constraints next m =
     (m ≤ mostConstraints)
-    × ((reads : List ReadPoint) (outputs : List OutputPoint)
-    → constraintsFrom s (suc mostConstraints) at (pointsSet r n reads outputs) ≡ constraintsFrom s (suc mostConstraints - m) next (wholeSet r n m reads outputs constraints))
+    × ((rest : ℕ) (reads : List ReadPoint) (outputs : List OutputPoint)
+    → constraintsFrom s (suc mostConstraints) at (restedSet r n rest reads outputs) ≡ constraintsFrom s (suc mostConstraints - m) next (wholeSet r n m rest reads outputs constraints))
 
 abbrev μ-loop : tie.MeasureT-loop
 μ-loop s at r n constraints₀ next₀ m₀ constraints next m = suc mostConstraints - m
@@ -37,7 +37,7 @@ loop-holds c =
     let a = c .before .before .args in
     let none = c .zero-constraints .ensures in (
       search needs,
-      λ reads outputs. ap (λ l. constraintsFrom (now (a .s)) (suc mostConstraints) (a .at) (wholeSet (a .r) (a .n) 0 reads outputs l)) (sym none),
+      λ rest reads outputs. ap (λ l. constraintsFrom (now (a .s)) (suc mostConstraints) (a .at) (wholeSet (a .r) (a .n) 0 rest reads outputs l)) (sym none),
     )
 
 front-at-requires : tie.Need-front-at-requires Inv-loop μ-loop
@@ -54,27 +54,27 @@ module _ (c : tie.After-front-at Inv-loop μ-loop) where
   header : headerOf (drop (c .front-at .result .at) (now (c .before .before .before .before .args .s))) 4 (c .before .loop .m) ≡ c .front-at .result .header
   header = let l = c .before .loop in front-header (now (c .before .before .before .before .args .s)) (l .next) 4 (l .m) (c .front-at .result) (c .front-at .ensures)
 
-  so-far : (reads : List ReadPoint) (outputs : List OutputPoint) → let l = c .before .loop in
+  so-far : (rest : ℕ) (reads : List ReadPoint) (outputs : List OutputPoint) → let l = c .before .loop in
       let a = c .before .before .before .before .args in
-      constraintsFrom (now (a .s)) (suc mostConstraints) (a .at) (pointsSet (a .r) (a .n) reads outputs)
-      ≡ constraintsFrom (now (a .s)) (suc mostConstraints - l .m) (c .front-at .result .at) (wholeSet (a .r) (a .n) (l .m) reads outputs (l .constraints))
-  so-far reads outputs =
+      constraintsFrom (now (a .s)) (suc mostConstraints) (a .at) (restedSet (a .r) (a .n) rest reads outputs)
+      ≡ constraintsFrom (now (a .s)) (suc mostConstraints - l .m) (c .front-at .result .at) (wholeSet (a .r) (a .n) (l .m) rest reads outputs (l .constraints))
+  so-far rest reads outputs =
       let l = c .before .loop in
       let a = c .before .before .before .before .args in
-      l .inv .1 reads outputs
-      ∙ ap (λ (x : ℕ). constraintsFrom (now (a .s)) (suc mostConstraints - l .m) x (wholeSet (a .r) (a .n) (l .m) reads outputs (l .constraints))) (sym place)
+      l .inv .1 rest reads outputs
+      ∙ ap (λ (x : ℕ). constraintsFrom (now (a .s)) (suc mostConstraints - l .m) x (wholeSet (a .r) (a .n) (l .m) rest reads outputs (l .constraints))) (sym place)
 
 ended-requires : tie.Need-ended-requires Inv-loop μ-loop
 ended-requires c κs = search needs
 
 returns : tie.Need-returns Inv-loop μ-loop
-returns c reads outputs =
+returns c rest reads outputs =
     let k = c .before .before in
     let h = k .before .before in
     let l = h .before .loop in
     let a = h .before .before .before .before .args in
-    ap (λ x. reached (x .progress) (wholeSet (a .r) (a .n) (x .m) reads outputs (x .constraints))) (c .ended .ensures)
-    ∙ constraints-stopped (now (a .s)) _ (h .front-at .result .at) (wholeSet (a .r) (a .n) (l .m) reads outputs (l .constraints)) (l .inv .0) (so-far h reads outputs) _ (header h ∙ k .header .given .1)
+    ap (λ x. reached (x .progress) (wholeSet (a .r) (a .n) (x .m) rest reads outputs (x .constraints))) (c .ended .ensures)
+    ∙ constraints-stopped (now (a .s)) _ (h .front-at .result .at) (wholeSet (a .r) (a .n) (l .m) rest reads outputs (l .constraints)) (l .inv .0) (so-far h rest reads outputs) _ (header h ∙ k .header .given .1)
 
 enum-known-header-2 : tie.Need-enum-known-header-2 Inv-loop μ-loop
 enum-known-header-2 c = search needs
@@ -95,16 +95,16 @@ ended-requires-2 : tie.Need-ended-requires-2 Inv-loop μ-loop
 ended-requires-2 c κs = search needs
 
 returns-2 : tie.Need-returns-2 Inv-loop μ-loop
-returns-2 c reads outputs =
+returns-2 c rest reads outputs =
     let e = c .before in
     let t = e .before in
     let k = t .before in
     let h = k .before .before .before in
     let l = h .before .loop in
     let a = h .before .before .before .before .args in
-    let s = wholeSet (a .r) (a .n) (l .m) reads outputs (l .constraints) in
-    ap (λ x. reached (x .progress) (wholeSet (a .r) (a .n) (x .m) reads outputs (x .constraints))) (c .ended2 .ensures) ∙ ap (λ p. reached p s) (e .end-at .ensures)
-    ∙ constraints-end (now (a .s)) _ (h .front-at .result .at) s (l .inv .0) (so-far h reads outputs) _ _ (here k) (t .if1 .taken)
+    let s = wholeSet (a .r) (a .n) (l .m) rest reads outputs (l .constraints) in
+    ap (λ x. reached (x .progress) (wholeSet (a .r) (a .n) (x .m) rest reads outputs (x .constraints))) (c .ended2 .ensures) ∙ ap (λ p. reached p s) (e .end-at .ensures)
+    ∙ constraints-end (now (a .s)) _ (h .front-at .result .at) s (l .inv .0) (so-far h rest reads outputs) _ _ (here k) (t .if1 .taken)
 
 -- what the header of a constraint tells
 few : (c : tie.Else1 Inv-loop μ-loop) → c .before .before .before .before .before .loop .m < mostConstraints
@@ -138,7 +138,7 @@ ended-requires-3 : tie.Need-ended-requires-3 Inv-loop μ-loop
 ended-requires-3 c κs = search needs
 
 returns-3 : tie.Need-returns-3 Inv-loop μ-loop
-returns-3 c reads outputs =
+returns-3 c rest reads outputs =
     let t = c .before .before in
     let f = t .before .before in
     let e = f .before .before in
@@ -146,8 +146,8 @@ returns-3 c reads outputs =
     let h = k .before .before .before in
     let l = h .before .loop in
     let a = h .before .before .before .before .args in
-    ap (λ x. reached (x .progress) (wholeSet (a .r) (a .n) (x .m) reads outputs (x .constraints))) (c .ended3 .ensures)
-    ∙ sym (constraints-by (now (a .s)) _ (h .front-at .result .at) (wholeSet (a .r) (a .n) (l .m) reads outputs (l .constraints)) (l .inv .0) (so-far h reads outputs) _ _ (here k) (e .if1 .left)
+    ap (λ x. reached (x .progress) (wholeSet (a .r) (a .n) (x .m) rest reads outputs (x .constraints))) (c .ended3 .ensures)
+    ∙ sym (constraints-by (now (a .s)) _ (h .front-at .result .at) (wholeSet (a .r) (a .n) (l .m) rest reads outputs (l .constraints)) (l .inv .0) (so-far h rest reads outputs) _ _ (here k) (e .if1 .left)
     (f .literals-of .result) (h .before .before .before .before .pre) (f .literals-of .ensures) _ (t .taken .given .1))
 
 enum-told : tie.Need-enum-told Inv-loop μ-loop
@@ -180,10 +180,10 @@ loop-again c =
     let l = h .before .loop in
     let a = h .before .before .before .before .args in (
       omega (arith, few e),
-      λ reads outputs.
-          let s = wholeSet (a .r) (a .n) (l .m) reads outputs (l .constraints) in
+      λ rest reads outputs.
+          let s = wholeSet (a .r) (a .n) (l .m) rest reads outputs (l .constraints) in
           let left : mostConstraints - l .m ≡ suc mostConstraints - (l .m + 1) = omega arith in
-          constraints-by (now (a .s)) _ (h .front-at .result .at) s (l .inv .0) (so-far h reads outputs) _ _ (here k) (e .if1 .left)
+          constraints-by (now (a .s)) _ (h .front-at .result .at) s (l .inv .0) (so-far h rest reads outputs) _ _ (here k) (e .if1 .left)
           (f .literals-of .result) (h .before .before .before .before .pre) (f .literals-of .ensures) _ (c .before .enum-told .given .1)
           ∙ ap (λ (x : ℕ). constraintsFrom (now (a .s)) x (h .front-at .result .at + 3 + k .before .header2 .given .0 .1 .0) (withConstraint s (f .literals-of .result .made))) left,
     )

@@ -47,16 +47,24 @@ are-outputs-ok-requires c κs = few-reads (c .before .before .before .before .be
 are-constraints-ok-requires : tie.Need-are-constraints-ok-requires
 are-constraints-ok-requires c κs = search needs
 
+fits16-requires : tie.Need-fits16-requires
+fits16-requires c κs = search needs
+
 both-requires : tie.Need-both-requires
 both-requires c κs = search needs
 
 both-requires-2 : tie.Need-both-requires-2
 both-requires-2 c κs = search needs
 
+both-requires-3 : tie.Need-both-requires-3
+both-requires-3 c κs = search needs
+
 returns : tie.Need-returns
 returns c =
     let b = c .before in
-    let k = b .before in
+    let d = b .before in
+    let f = d .before in
+    let k = f .before in
     let o = k .before in
     let p = o .before .before .before in
     let w = p .before .before in
@@ -64,11 +72,12 @@ returns c =
     let t = n .before .before .before in
     let z = t .before .before in
     let s = z .args .set in
-    set-tests s (p .are-reads-ok .result) (o .are-outputs-ok .result) (k .are-constraints-ok .result) (b .both .result) (c .both2 .result)
+    set-tests s (p .are-reads-ok .result) (o .are-outputs-ok .result) (k .are-constraints-ok .result) (f .fits16 .result)
+    (d .both .result) (b .both2 .result) (c .both3 .result)
     (counted t) (long-reads z) (long-outputs z) (long-constraints z) (p .are-reads-ok .ensures)
     (o .are-outputs-ok .ensures
     ∙ by-outputs (n .names-of-reads .result) (s .reads) (n .names-of-reads .ensures) (w .names-of-outputs .result) (s .outputs) (w .names-of-outputs .ensures) (s .r) (s .n) (few-reads t))
-    (k .are-constraints-ok .ensures) (b .both .ensures) (c .both2 .ensures)
+    (k .are-constraints-ok .ensures) (f .fits16 .ensures) (d .both .ensures) (b .both2 .ensures) (c .both3 .ensures)
 
 returns-2 : tie.Need-returns-2
 returns-2 c = bad-counts (c .before .before .args .set) (sym (c .before .are-counts-ok .ensures) ∙ c .if1 .left)
@@ -83,7 +92,9 @@ well-formed-spec =
     are-reads-ok-requires
     are-outputs-ok-requires
     are-constraints-ok-requires
+    fits16-requires
     both-requires
     both-requires-2
+    both-requires-3
     returns
     returns-2)

@@ -4,7 +4,7 @@ use mathlib.Core.List.{[], _∷_}
 use denote.Enum.Declared.{tagOf}
 use types.Run.{OneOf, miss}
 use Rattle.scan.specs.declared.set.Set.{Set}
-use Rattle.scan.specs.Set.{freshState, zeroState}
+use Rattle.scan.specs.Set.{zeroSet, freshState, zeroState}
 use Rattle.verdict.specs.declared.verdict.Verdict.{Verdict}
 use Rattle.verdict.proofs.verdict.Verdict.{the-type}
 use Rattle.verdict.specs.declared.verdict.Verdict.the-variants.{Accepted, BadSet, ShortScratch, NoVector, NoEnd}
@@ -16,6 +16,11 @@ use Rattle.start.proofs.starting.state_of.Tie as tie
 -- acceptance leads to a fresh state
 accepted : (s : Set) (v : Verdict) → v ≡ Accepted → freshState s ≡ startState s v
 accepted s v e = ap (startState s) (sym e)
+
+-- the zero set's rest word is 0
+zero-fresh : freshState zeroSet ≡ zeroState
+unfolding zeroSet
+zero-fresh = refl
 
 -- any verdict but acceptance leads to the zero state
 rejected : (s : Set) (v : Verdict) → OneOf (1 ∷ 2 ∷ 3 ∷ 4 ∷ []) (tagOf the-type v) → zeroState ≡ startState s v
@@ -46,7 +51,7 @@ returns-2 : tie.Need-returns-2
 returns-2 c =
     let m = c .before .before in
     let a = m .before .args in
-    c .fresh2 .ensures ∙ ap freshState (c .before .zero-set .ensures) ∙ rejected (a .set) (a .verdict) (m .match .keys2)
+    c .fresh2 .ensures ∙ ap freshState (c .before .zero-set .ensures) ∙ zero-fresh ∙ rejected (a .set) (a .verdict) (m .match .keys2)
 
 pub state-of-spec : {M : Type 1} → statement M
 state-of-spec =

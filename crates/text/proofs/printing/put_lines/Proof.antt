@@ -8,7 +8,7 @@ use Rattle.words.proofs.ListLaws.{mapped-long}
 use Rattle.scan.specs.Set.{mostReads, mostOutputs}
 use Rattle.scan.proofs.ShapeLaws.{counts, lengths}
 use Rattle.text.specs.Text.{textOf}
-use Rattle.text.specs.way.Place.{outputsBytes, readsBytes, constraintsBytes}
+use Rattle.text.specs.way.Place.{outputsBytes, readsBytes, restsBytes, constraintsBytes}
 use Rattle.text.proofs.PlaceLaws.{within-same, within-then}
 use Rattle.text.proofs.TextLaws.{read-names-all, output-names-all, text-told, reads-few}
 use Rattle.text.proofs.printing.put_lines.Statement.{statement}
@@ -42,6 +42,12 @@ slice-aggregate-put-reads-2 c = search needs
 put-reads-requires : tie.Need-put-reads-requires
 put-reads-requires c κs = let s = start (c .before .before .before .before .before .before .before) in counts (s .args .set) (s .pre) .r-le
 
+slice-aggregate-put-rests : tie.Need-slice-aggregate-put-rests
+slice-aggregate-put-rests c = search needs
+
+put-rests-requires : tie.Need-put-rests-requires
+put-rests-requires c κs = search needs
+
 slice-aggregate-put-constraints : tie.Need-slice-aggregate-put-constraints
 slice-aggregate-put-constraints c = search needs
 
@@ -50,7 +56,7 @@ slice-aggregate-put-constraints-2 c = search needs
 
 put-constraints-requires : tie.Need-put-constraints-requires
 put-constraints-requires c κs =
-    let s = start (c .before .before .before .before .before .before .before .before .before .before .before .before .before) in
+    let s = start (c .before .before .before .before .before .before .before .before .before .before .before .before .before .before .before .before .before .before) in
     (counts (s .args .set) (s .pre) .m-le, reads-few (s .args .set) (s .pre))
 
 slice-aggregate-put-bytes : tie.Need-slice-aggregate-put-bytes
@@ -66,21 +72,28 @@ returns : tie.Need-returns
 returns c =
     let e = c .before .before in
     let m = e .before .before .before .before .before in
-    let r = m .before .before .before .before .before .before in
+    let q = m .before .before .before .before .before .before in
+    let r = q .before .before .before .before .before in
     let o = r .before .before .before .before .before .before in
     let on = o .before .before in
     let rn = on .before in
     let s = start on in
     let a = s .args in
+    let buf = now (a .buf) in
     let reads = rn .names-of-reads .result in
     let outputs = on .names-of-outputs .result in
     let long = lengths (a .set) (s .pre) in
-    within-same (now (a .buf)) 0 _ (textOf (a .set)) _ _
+    let points = outputsBytes (a .set .outputs) (a .set .n) ++ readsBytes reads outputs (a .set .reads) (a .set .r) in
+    let rests = restsBytes outputs (a .set .rest) in
+    let nevers = constraintsBytes reads outputs (a .set .constraints) (a .set .m) in
+    within-same buf 0 _ (textOf (a .set)) _ _
     (text-told (a .set) reads outputs (read-names-all reads (a .set .reads) (reads-long rn) (long .0) (rn .names-of-reads .ensures))
     (output-names-all outputs (a .set .outputs) (outputs-long on) (long .1) (on .names-of-outputs .ensures)))
-    (within-then (now (a .buf)) 0 ((outputsBytes (a .set .outputs) (a .set .n) ++ readsBytes reads outputs (a .set .reads) (a .set .r)) ++ constraintsBytes reads outputs (a .set .constraints) (a .set .m)) _ _ _ _ _
-    (within-then (now (a .buf)) 0 (outputsBytes (a .set .outputs) (a .set .n) ++ readsBytes reads outputs (a .set .reads) (a .set .r)) (constraintsBytes reads outputs (a .set .constraints) (a .set .m)) _ _ _ _
-    (within-then (now (a .buf)) 0 (outputsBytes (a .set .outputs) (a .set .n)) (readsBytes reads outputs (a .set .reads) (a .set .r)) _ _ _ _ (o .put-outputs .ensures) (r .put-reads .ensures))
+    (within-then buf 0 ((points ++ rests) ++ nevers) _ _ _ _ _
+    (within-then buf 0 (points ++ rests) nevers _ _ _ _
+    (within-then buf 0 points rests _ _ _ _
+    (within-then buf 0 (outputsBytes (a .set .outputs) (a .set .n)) (readsBytes reads outputs (a .set .reads) (a .set .r)) _ _ _ _ (o .put-outputs .ensures) (r .put-reads .ensures))
+    (q .put-rests .ensures))
     (m .put-constraints .ensures))
     (e .put-bytes .ensures))
 
@@ -94,6 +107,8 @@ put-lines-spec =
     slice-aggregate-put-reads
     slice-aggregate-put-reads-2
     put-reads-requires
+    slice-aggregate-put-rests
+    put-rests-requires
     slice-aggregate-put-constraints
     slice-aggregate-put-constraints-2
     put-constraints-requires

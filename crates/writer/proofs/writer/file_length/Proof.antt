@@ -24,17 +24,23 @@ outputs-length-requires c κs =
 add-result-2 : tie.Need-add-result-2
 add-result-2 c = search needs
 
-constraints-length-requires : tie.Need-constraints-length-requires
-unfolding constraint
-constraints-length-requires c κs =
-    let s = c .before .before .before .before .before in
-    (counts (s .args .set) (s .pre) .m-le, masks-few (s .args .set) (s .pre))
+rest-length-requires : tie.Need-rest-length-requires
+rest-length-requires c κs = search needs
 
 add-result-3 : tie.Need-add-result-3
 add-result-3 c = search needs
 
+constraints-length-requires : tie.Need-constraints-length-requires
+unfolding constraint
+constraints-length-requires c κs =
+    let s = c .before .before .before .before .before .before in
+    (counts (s .args .set) (s .pre) .m-le, masks-few (s .args .set) (s .pre))
+
+add-result-4 : tie.Need-add-result-4
+add-result-4 c = search needs
+
 returns : tie.Need-returns
-returns c = omega (arith, file-long (c .before .before .before .before .before .before .args .set))
+returns c = omega (arith, file-long (c .before .before .before .before .before .before .before .args .set))
 
 pub file-length-spec : {M : Type 1} → statement M
 file-length-spec =
@@ -44,6 +50,8 @@ file-length-spec =
     add-result
     outputs-length-requires
     add-result-2
-    constraints-length-requires
+    rest-length-requires
     add-result-3
+    constraints-length-requires
+    add-result-4
     returns)
