@@ -28,6 +28,7 @@ struct constraint {
 
 struct set {
     size_t r, n, m;
+    uint16_t rest; // the outputs that count as on before the first scan
     struct read_point reads[MOST_READS];
     struct output_point outputs[MOST_OUTPUTS];
     struct constraint constraints[MOST_CONSTRAINTS];
@@ -172,7 +173,7 @@ static bool is_well_formed(const struct set *s)
     for (size_t i = s->m; i < MOST_CONSTRAINTS; i++)
         if (!is_constraint_zero(&s->constraints[i]))
             return false;
-    return true;
+    return s->rest >> s->n == 0;
 }
 
 // ---- a read word's active constraints, and their table
@@ -434,8 +435,10 @@ static struct verdict start(const struct set *s, uint8_t *scratch, size_t len, s
 {
     struct verdict v = judge(s, scratch, len);
     memset(st, 0, sizeof *st);
-    if (v.number == 0)
+    if (v.number == 0) {
         st->set = *s;
+        st->past_output = s->rest;
+    }
     return v;
 }
 
@@ -494,10 +497,10 @@ static struct sent scan(struct state *st, uint32_t sensor, uint16_t request)
 
 // ---- loading
 
-enum tag { TAG_COUNTS = 1, TAG_READ, TAG_OUTPUT, TAG_CONSTRAINT, TAG_END };
+enum tag { TAG_COUNTS = 1, TAG_READ, TAG_OUTPUT, TAG_CONSTRAINT, TAG_END, TAG_REST };
 
 // By tag: the shortest body, the longest body, and what a body's length is a multiple of.
-static const uint8_t lengths[6][3] = { { 0, 0, 1 }, { 2, 2, 1 }, { 3, 10, 1 }, { 1, 8, 1 }, { 2, 48, 2 }, { 0, 0, 1 } };
+static const uint8_t lengths[7][3] = { { 0, 0, 1 }, { 2, 2, 1 }, { 3, 10, 1 }, { 1, 8, 1 }, { 2, 48, 2 }, { 0, 0, 1 }, { 2, 2, 1 } };
 
 struct field {
     uint8_t tag;
@@ -602,6 +605,12 @@ static unsigned load_constraint(struct set *s, const struct field *f)
     return next <= 16 ? 11 : 0;
 }
 
+static unsigned load_rest(struct set *s, const struct field *f)
+{
+    s->rest = (uint16_t)(f->body[0] * 256 + f->body[1]);
+    return s->rest == 0 || s->rest >> s->n != 0 ? 54 : 0;
+}
+
 // Fields in their order; a refusal's number, with the offset of the field, or 0.
 static unsigned load_fields(const uint8_t *file, size_t len, struct set *s, size_t *at)
 {
@@ -619,6 +628,12 @@ static unsigned load_fields(const uint8_t *file, size_t len, struct set *s, size
         refusal = take_field(file, len, *at, TAG_OUTPUT, 0, &f);
         if (refusal != 0 || (refusal = load_output(s, j, &f)) != 0)
             return refusal;
+    }
+    if (*at < len && file[*at] == TAG_REST) {
+        refusal = take_field(file, len, *at, TAG_REST, 0, &f);
+        if (refusal != 0 || (refusal = load_rest(s, &f)) != 0)
+            return refusal;
+        *at += 3 + f.len;
     }
     for (;; *at += 3 + f.len) {
         refusal = take_field(file, len, *at, TAG_CONSTRAINT, s->m, &f);
@@ -653,6 +668,8 @@ static size_t file_length(const struct set *s)
         len += 5 + name_length(s->reads[k].name);
     for (size_t j = 0; j < s->n; j++)
         len += 3 + name_length(s->outputs[j].name);
+    if (s->rest != 0)
+        len += 5;
     for (size_t i = 0; i < s->m; i++) {
         const struct constraint *c = &s->constraints[i];
         len += 3 + 2 * (size_t)(__builtin_popcount(c->read_plain | c->read_negated) + __builtin_popcount(c->out_plain | c->out_negated));
@@ -704,6 +721,13 @@ static void put_file(const struct set *s, uint8_t *buf)
         field = end;
         end = put_name(field + 3, s->outputs[j].name);
         put_header(field, TAG_OUTPUT, end);
+    }
+    if (s->rest != 0) {
+        field = end;
+        field[3] = (uint8_t)(s->rest >> 8);
+        field[4] = (uint8_t)s->rest;
+        end = field + 5;
+        put_header(field, TAG_REST, end);
     }
     for (size_t i = 0; i < s->m; i++) {
         field = end;
@@ -812,6 +836,12 @@ static size_t text_lines(const struct set *s, uint8_t *buf, size_t len)
     }
     for (size_t k = 0; k < s->r; k++)
         text_read(&p, s, k);
+    for (size_t j = 0; j < MOST_OUTPUTS; j++)
+        if (s->rest >> j & 1) {
+            text_bytes(&p, "rest");
+            text_name(&p, s->outputs[j].name);
+            text_byte(&p, '\n');
+        }
     for (size_t i = 0; i < s->m; i++)
         text_constraint(&p, s, &s->constraints[i]);
     text_bytes(&p, "end\n");
@@ -898,7 +928,7 @@ static uint32_t load_often(const uint8_t *file, size_t len, uint32_t times)
         size_t k = times % 12;
         const struct constraint *c = &s.constraints[times % 64];
         sum = mix(mix(sum, c->read_plain), c->read_negated);
-        sum = mix(mix(sum, c->out_plain), c->out_negated);
+        sum = mix(mix(mix(sum, c->out_plain), c->out_negated), s.rest);
         uint8_t places[4] = { s.reads[k].name[0], s.reads[k].name[7], s.outputs[k].name[0], c->ranks[k] };
         sum = mix(sum, four(places));
     }

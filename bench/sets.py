@@ -1,18 +1,19 @@
-"""Set files and lists of scans for the benchmark, made from fixed seeds. The form of a set file is document 01's."""
+"""Set files and lists of scans for the benchmark, made from fixed seeds. The form of a set file is document 01's, with change request K6's rest word."""
 import random
 import struct
 
 
 class Set:
-    """A set as the file has it: names and kinds of points, and constraints as lists of literals (point, is output, negated, rank)."""
+    """A set as the file has it: names and kinds of points, the outputs that rest on, as a word, and constraints as lists of literals (point, is output, negated, rank)."""
 
-    def __init__(self, reads, outputs, constraints):
-        self.reads, self.outputs, self.constraints = reads, outputs, constraints
+    def __init__(self, reads, outputs, constraints, rest=0):
+        self.reads, self.outputs, self.constraints, self.rest = reads, outputs, constraints, rest
 
     def file(self):
         fields = [(1, bytes([len(self.reads), len(self.outputs)]))]
         fields += [(2, bytes([0, 0]) + name) for name in self.reads]
         fields += [(3, name) for name in self.outputs]
+        fields += [(6, struct.pack(">H", self.rest))] if self.rest else []
         fields += [(4, b"".join(literal(*l) for l in c)) for c in self.constraints]
         fields += [(5, b"")]
         return b"".join(struct.pack(">BH", tag, len(body)) + body for tag, body in fields)
@@ -73,13 +74,13 @@ def counter_behind_masks(r, n, splits, m):
 
 
 def largest():
-    """The longest file that there is: 16 read points, 8 outputs, names of 8 bytes, 64 constraints of 24 literals."""
+    """The longest file that there is: 16 read points, 8 outputs, names of 8 bytes, a rest word, 64 constraints of 24 literals."""
     rng = random.Random(5)
     constraints = []
     for _ in range(64):
         reads = [(k, False, rng.random() < 0.5, 0) for k in range(16)]
         constraints.append(reads + [(k, True, rng.random() < 0.5, rng.randint(0, 255)) for k in range(8)])
-    return Set([b"sensor%02d" % k for k in range(16)], [b"output%02d" % k for k in range(8)], constraints)
+    return Set([b"sensor%02d" % k for k in range(16)], [b"output%02d" % k for k in range(8)], constraints, 0xA5)
 
 
 def scans(sensors, n, count, seed):

@@ -68,7 +68,7 @@ fn mix_written(sum: u32, written: Written) -> u32 {
     mix8(sum, writer::number_of(written))
 }
 
-// The checksum with a place of each array of the set: other places at each turn, so that the whole set has to be made.
+// The checksum with the rest word and a place of each array of the set: other places at each turn, so that the whole set has to be made.
 fn mix_set(sum: u32, set: Set, turn: u32) -> u32 {
     let k = turn as usize % MOST_OUTPUTS;
     let i = turn as usize % MOST_CONSTRAINTS;
@@ -79,7 +79,8 @@ fn mix_set(sum: u32, set: Set, turn: u32) -> u32 {
     let b = output.name;
     let reads = mix(mix(sum, c.read_plain), c.read_negated);
     let outs = mix16(mix16(reads, c.out_plain), c.out_negated);
-    mix(outs, four(a[0], a[7], b[0], c.ranks[k]))
+    let rested = mix16(outs, set.rest);
+    mix(rested, four(a[0], a[7], b[0], c.ranks[k]))
 }
 
 fn judge_often(set: Set, times: u32, scratch: &mut [u8]) -> u32 {
