@@ -28,10 +28,10 @@ struct constraint {
 
 struct set {
     size_t r, n, m;
-    uint16_t rest; // the outputs that count as on before the first scan
     struct read_point reads[MOST_READS];
     struct output_point outputs[MOST_OUTPUTS];
     struct constraint constraints[MOST_CONSTRAINTS];
+    uint16_t rest; // the outputs that count as on before the first scan
 };
 
 struct state {

@@ -1,4 +1,4 @@
--- Loading, front to back: one 0x01, r of 0x02, n of 0x03, up to `mostConstraints` of 0x04, one 0x05, and nothing after. Each field is taken from the front of
+-- Loading, front to back: one 0x01, r of 0x02, n of 0x03, at most one 0x06, up to `mostConstraints` of 0x04, one 0x05, and nothing after. Each field is taken from the front of
 -- what is left of the file s at the place `at`, which is the offset that a refusal gives. The tests of a field come in the order of their
 -- numbers: 1 to 4 in specs/Header, 9 to 11 in specs/Literal, the others here.
 -- Assumes nothing.

@@ -1,6 +1,6 @@
 -- Behind the outputs: the column's tests of the rest word, if its field stands there, and then those of the constraints tell how far they are loaded.
 -- Assumes nothing.
-use mathlib.Core.Path.{_≡_, refl, sym, ap, subst, _∙_}
+use mathlib.Core.Path.{_≡_, refl, sym, ap, subst}
 use mathlib.Core.Bool.{Bool, true, false, not, cond, _&&_}
 use mathlib.Core.List.{List, [], _∷_, _++_}
 use mathlib.Core.Logic.{inl}
@@ -12,9 +12,8 @@ use Rattle.words.proofs.BoolLaws.{by-test}
 use Rattle.scan.specs.declared.set.Set.{Set}
 use Rattle.scan.specs.Set.{mostConstraints, withRest}
 use Rattle.header.specs.declared.numbers.Taken.{Taken}
-use Rattle.header.specs.Header.{headerOf}
 use Rattle.header.specs.Test.{Test, test}
-use Rattle.loader.specs.Load.{Loading, goingOn, andThen, goodIf, fieldAt, restWord, restGood, restAt, constraintsFrom, afterRest}
+use Rattle.loader.specs.Load.{goingOn, andThen, goodIf, fieldAt, restWord, restGood, restAt, constraintsFrom, afterRest}
 use Rattle.promise.specs.Fields.{Fields, fieldsFrom}
 use Rattle.promise.specs.Fields.Fields.{ends, cut, field}
 use Rattle.promise.specs.Column.{missing, headTests, restFits, restTests, constraintsTests}

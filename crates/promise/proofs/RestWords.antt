@@ -1,14 +1,12 @@
 -- Drives that rest on: which rest words a well-formed set may have, that verdicts and scans do not read it, and that past outputs do until a scan is allowed.
 -- Assumes nothing.
 use mathlib.Core.Path.{_≡_, refl, subst}
-use mathlib.Core.Bool.{Bool, true}
-use mathlib.Core.List.{List}
+use mathlib.Core.Bool.{true}
 use mathlib.Core.Logic.{_↔_}
 use Prim.Native.Nat.{ℕ, _^_, _<_}
 use borrow.Author.Tests.{lt-ltb}
 use Rattle.words.proofs.BoolLaws.{every-at}
 use Rattle.scan.specs.declared.set.Kind.{Kind}
-use Rattle.scan.specs.declared.set.Kind.the-variants.{PastOutput}
 use Rattle.scan.specs.declared.set.Set.{Set}
 use Rattle.scan.specs.Set.{kind, constraint}
 use Rattle.scan.specs.Shape.{lengthTests, constraintPlace, setTests, wellFormed}

@@ -3,7 +3,7 @@
 use mathlib.Core.Path.{_≡_, refl, sym, _∙_, ap, ap₂}
 use mathlib.Core.Bool.{Bool, true, false, cond, _&&_}
 use mathlib.Core.List.{List, [], _∷_, _++_}
-use Prim.Native.Nat.{ℕ, _+_, _*_, _/_, _%_, _^_, _≤_, _<_}
+use Prim.Native.Nat.{ℕ, _+_, _/_, _%_, _^_, _<_}
 use native.Mathlib.Nat.{div-add-mod'}
 use native.Mathlib.Decide.{ℕ-discrete}
 use native.Mathlib.Omega.{arith}
@@ -20,7 +20,7 @@ use Rattle.header.specs.declared.numbers.Taken.{Taken}
 use Rattle.header.specs.Bytes.{Bytes}
 use Rattle.header.specs.Header.{headerOf, bodyOf}
 use Rattle.header.proofs.HeaderLaws.{due-is, rest-length}
-use Rattle.loader.specs.declared.loader.Progress.the-variants.{At, Refused}
+use Rattle.loader.specs.declared.loader.Progress.the-variants.{At}
 use Rattle.loader.specs.Load.{Loading, goingOn, goodIf, fieldDone, fieldBy, restWord, restGood, restAt}
 use Rattle.writer.specs.Write.{fieldOf, restBody, restField}
 use Rattle.setfile.proofs.Fields.{two-bytes, field-back, body-back, after-field, found}

@@ -1,16 +1,13 @@
 -- `loader::rest::rest_at` meets its contract: by the byte at the place, which is 0 where the file has ended. Assumes nothing.
-use mathlib.Core.Path.{_≡_, sym, ap, _∙_}
-use mathlib.Core.Bool.{true, false}
+use mathlib.Core.Path.{_≡_, sym, _∙_}
 use mathlib.Core.List.{List}
 use Prim.Native.Nat.{ℕ, _≤_}
 use native.Mathlib.Omega.{arith}
-use lib.Dec.{eqb}
 use lib.ListN.{length, getD, drop, List·getD-eq-default}
 use borrow.Author.Tests.{eq-eqb, ne-eqb}
 use denote.Ref.{now}
 use Rattle.header.specs.Header.{headerOf}
 use Rattle.header.proofs.HeaderLaws.{tag-at}
-use Rattle.loader.specs.declared.rest.RestStep.{RestStep}
 use Rattle.loader.specs.declared.loader.Progress.the-variants.{At}
 use Rattle.loader.specs.way.Load.{restStep, restPlace}
 use borrow.Author.Needs.{needs}
