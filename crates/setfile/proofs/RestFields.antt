@@ -10,7 +10,7 @@ use native.Mathlib.Omega.{arith}
 use lib.Dec.{ltb, eqb}
 use lib.ListN.{length, getD, drop}
 use lib.Pow.{pow-pos}
-use borrow.Author.Tests.{lt-ltb, ltb-true, eq-eqb, ne-eqb}
+use borrow.Author.Tests.{lt-ltb, ltb-true}
 use Rattle.words.proofs.BoolLaws.{by-test, and-true}
 use Rattle.scan.specs.declared.set.Set.{Set}
 use Rattle.scan.specs.Set.{withRest}
@@ -23,17 +23,8 @@ use Rattle.header.proofs.HeaderLaws.{due-is, rest-length}
 use Rattle.loader.specs.declared.loader.Progress.the-variants.{At}
 use Rattle.loader.specs.Load.{Loading, goingOn, goodIf, fieldDone, fieldBy, restWord, restGood, restAt}
 use Rattle.writer.specs.Write.{fieldOf, restBody, restField}
+use Rattle.writer.proofs.WriteLaws.{rest-none, rest-some}
 use Rattle.setfile.proofs.Fields.{two-bytes, field-back, body-back, after-field, found}
-
--- ---- how it is written
-
-zero-field : (word : ℕ) → word ≡ 0 → restField word ≡ []
-unfolding restField
-zero-field word z = ap (λ (b : Bool). cond b [] (fieldOf 6 (restBody word))) (eq-eqb word 0 z)
-
-some-field : (word : ℕ) → (word ≡ 0 → ⊥) → restField word ≡ fieldOf 6 (restBody word)
-unfolding restField
-some-field word nz = ap (λ (b : Bool). cond b [] (fieldOf 6 (restBody word))) (ne-eqb word 0 nz)
 
 module _ (file : List ℕ) (at : ℕ) (set : Set) (none : set .rest ≡ 0) where
   -- what its body tells and gives
@@ -64,11 +55,11 @@ module _ (file : List ℕ) (at : ℕ) (set : Set) (none : set .rest ≡ 0) where
     where
       go : Dec (word ≡ 0) → (next : ℕ) × (restAt file at set ≡ goingOn next (withRest set word)) × (drop next file ≡ tail)
       go (yes z) =
-          let w : drop at file ≡ tail = e ∙ ap (λ (l : List ℕ). l ++ tail) (zero-field word z) in
+          let w : drop at file ≡ tail = e ∙ ap (λ (l : List ℕ). l ++ tail) (rest-none word z) in
           let q : eqb (getD (drop at file) 0 0) 6 ≡ false = ap (λ (l : List ℕ). eqb (getD l 0 0) 6) w ∙ otherwise in
           (at, other false q ∙ kept ∙ ap (λ (x : ℕ). goingOn at (withRest set x)) (sym z), w)
       go (no nz) =
-          let w : drop at file ≡ fieldOf 6 (restBody word) ++ tail = e ∙ ap (λ (l : List ℕ). l ++ tail) (some-field word nz) in
+          let w : drop at file ≡ fieldOf 6 (restBody word) ++ tail = e ∙ ap (λ (l : List ℕ). l ++ tail) (rest-some word nz) in
           let q : eqb (getD (drop at file) 0 0) 6 ≡ true = ap (λ (l : List ℕ). eqb (getD l 0 0) 6) w in
           let hd : headerOf (drop at file) 6 0 ≡ Field 6 2 = ap (λ (s : List ℕ). headerOf s 6 0) w ∙ field-back 6 (restBody word) tail 6 0 refl refl refl in
           let bd : bodyOf (drop at file) 2 ≡ restBody word = ap (λ (s : List ℕ). bodyOf s 2) w ∙ body-back 6 (restBody word) tail in
@@ -97,7 +88,7 @@ module _ (file : List ℕ) (at : ℕ) (set : Set) (none : set .rest ≡ 0) where
       record {
         word = 0;
         loaded = other false q ∙ kept ∙ ap (λ (x : ℕ). goingOn x (withRest set 0)) same;
-        written = ap (λ (x : ℕ). drop x file) same ∙ ap (λ (l : List ℕ). l ++ drop next file) (sym (zero-field 0 refl));
+        written = ap (λ (x : ℕ). drop x file) same ∙ ap (λ (l : List ℕ). l ++ drop next file) (sym (rest-none 0 refl));
         small = pow-pos (set .n);
       }
 
@@ -119,7 +110,7 @@ module _ (file : List ℕ) (at : ℕ) (set : Set) (none : set .rest ≡ 0) where
         let ok = and-true (ltb 0 word) (ltb word (2 ^ set .n)) t in
         let some : 0 < word = ltb-true 0 word (ok .0) in
         let same : at + 3 + len ≡ next = cc in
-        let field : restField word ≡ fieldOf 6 body = some-field word (λ z. omega arith) ∙ ap (fieldOf 6) (ap₂ (λ (x y : ℕ). x ∷ y ∷ []) high-is low-is ∙ sym (two-bytes body long)) in
+        let field : restField word ≡ fieldOf 6 body = rest-some word (λ z. omega arith) ∙ ap (fieldOf 6) (ap₂ (λ (x y : ℕ). x ∷ y ∷ []) high-is low-is ∙ sym (two-bytes body long)) in
         record {
           word = word;
           loaded =
