@@ -53,8 +53,13 @@ returns-2 c =
     let p = q .before .before .before .before in
     let e = p .before .before in
     let a = e .before .before .args in
-    put-same (now (a .buf)) (a .at) (restField (a .rest)) (fieldOf 0x06 (restBody (a .rest))) _ _ (rest-some (a .rest) (e .if1 .left))
-    (field-put (now (a .buf)) (a .at) 0x06 2 (restBody (a .rest)) _ _ _ _ refl (room e) (p .put-header .ensures) (q .put-two .ensures))
+    let mid = p .put-header .last .0 in
+    let next = p .put-header .result in
+    let after = q .put-two .last .0 in
+    let place = q .put-two .result in
+    let bytes : Put mid next (restBody (a .rest)) after place = q .put-two .ensures in
+    put-same (now (a .buf)) (a .at) (restField (a .rest)) (fieldOf 0x06 (restBody (a .rest))) after place (rest-some (a .rest) (e .if1 .left))
+    (field-put (now (a .buf)) (a .at) 0x06 2 (restBody (a .rest)) mid after next place refl (room e) (p .put-header .ensures) bytes)
 
 pub put-rest-spec : {M : Type 1} → statement M
 put-rest-spec =

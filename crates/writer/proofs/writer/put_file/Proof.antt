@@ -71,7 +71,10 @@ done-5 c =
     let s = start-5 c in
     let a = s .args in
     let buf = now (a .buf) in
-    put-then buf 0 (restPut (a .set)) (constraintFields (a .set .constraints) (a .set .m)) _ _ _ _ (room-rest (a .set) (length buf) (fits s)) (done-4 (c .before .before .before .before)) (c .put-constraints .ensures)
+    let p = c .before .before .before .before in
+    let fields = constraintFields (a .set .constraints) (a .set .m) in
+    let behind : Put (p .put-rest .last .0) (p .put-rest .result) fields (c .put-constraints .last .0) (c .put-constraints .result) = c .put-constraints .ensures in
+    put-then buf 0 (restPut (a .set)) fields (p .put-rest .last .0) (c .put-constraints .last .0) (p .put-rest .result) (c .put-constraints .result) (room-rest (a .set) (length buf) (fits s)) (done-4 p) behind
 
 -- ---- the needs
 
