@@ -17,7 +17,10 @@ both-requires c κs = search needs
 -- the test is that of the definition
 tested : (c : tie.After-both) → let a = c .before .before .args in
     c .both .result ≡ (ltb 0 (a .rest) && ltb (a .rest) (2 ^ a .n))
-tested c = let a = c .before .before .args in c .both .ensures ∙ ap (λ (b : Bool). ltb 0 (a .rest) && b) (c .before .fits16 .ensures)
+tested c =
+    let a = c .before .before .args in
+    let both : c .both .result ≡ (ltb 0 (a .rest) && c .before .fits16 .result) = c .both .ensures in
+    both ∙ ap (λ (b : Bool). ltb 0 (a .rest) && b) (c .before .fits16 .ensures)
 
 returns : tie.Need-returns
 returns c = sym (ap (λ (b : Bool). goodIf b 54) (sym (tested (c .before)) ∙ c .if1 .taken))
