@@ -13,7 +13,7 @@ use lib.Seq.{ext-getD}
 use borrow.Author.Tests.{ltb-true}
 use Rattle.words.specs.Word.{bit}
 use Rattle.words.proofs.BoolLaws.{by-test, and-true, same-truth}
-use Rattle.words.proofs.BitLaws.{same-bits, bit-below}
+use Rattle.words.proofs.BitLaws.{same-bits}
 use Rattle.scan.specs.declared.set.Kind.{Kind}
 use Rattle.scan.specs.declared.set.Kind.the-variants.{Sensor, PastOutput, PastSensor}
 use Rattle.scan.specs.declared.set.Set.{Set}
@@ -29,6 +29,7 @@ use Rattle.promise.proofs.Bits.{bit-set, set-bit, bit-clear}
 use Rattle.promise.proofs.NameRefusals.{find-refusals}
 use Rattle.promise.proofs.NameMeanings.{names-mean}
 use Rattle.promise.proofs.PlaceMeanings.{places-mean}
+use Rattle.promise.proofs.RestLines.{rest-below}
 use Rattle.promise.proofs.TextsSay.{text-says}
 
 -- ---- counts: the first byte of a line tells which it is
@@ -280,8 +281,8 @@ module _ (s t : Set) (os : wellFormed s ≡ true) (ot : wellFormed t ≡ true) (
   -- a line is of the same output in both
   rest-one : (j k l : ℕ) → Bit k (s .rest) → Bit l (t .rest) → RestShown s k (wordsOf text (s .n + s .r + j)) → RestShown t l (wordsOf text (t .n + t .r + j)) → k ≡ l
   rest-one j k l x y e f =
-      let hk = bit-below (s .n) k (s .rest) (rest-lt s os) (set-bit k (s .rest) x) in
-      let hl = bit-below (s .n) l (t .rest) (out-lt (t .rest) (rest-lt t ot)) (set-bit l (t .rest) y) in
+      let hk = rest-below s os k (set-bit k (s .rest) x) in
+      let hl : l < s .n = omega (arith, n-same, rest-below t ot l (set-bit l (t .rest) y)) in
       let place : s .n + s .r + j ≡ t .n + t .r + j = omega (arith, n-same, r-same) in
       names-mean s os .one-output k l hk hl (ap (λ (ws : List (List ℕ)). getD ws 1 []) (sym e ∙ ap (wordsOf text) place ∙ f) ∙ sym (output-name l hl))
 
