@@ -7,7 +7,7 @@
 #include <string.h>
 
 enum { MOST_READS = 16, MOST_OUTPUTS = 12, MOST_POINTS = 24, MOST_CONSTRAINTS = 64, NAME_PLACES = 8 };
-enum { MOST_FILE = 4096, MOST_VECTORS = 4096, PLACES = 251, LANES = 16 };
+enum { MOST_FILE = 4096, MOST_SCRATCH = 512, PLACES = 251, LANES = 16, WORDS = 8, TRAIL = 512 };
 enum kind { SENSOR, PAST_OUTPUT, PAST_SENSOR };
 
 struct read_point {
@@ -198,13 +198,28 @@ static void make_literals(const struct set *s, struct literals *l)
     }
 }
 
-// The constraints whose read literals are all true at the read word w, bit i telling of constraint i.
-static uint64_t active_at(const struct literals *l, size_t m, uint32_t w)
+// Of the constraints those whose literals of read points 0 to 2 are all true at w, bit i telling of constraint i, and those whose other read literals are. A
+// constraint is active where both are, and the others are the same at eight words in a row.
+static uint64_t low_active(const struct literals *l, size_t m, uint32_t w)
 {
     uint64_t active = 0;
     for (size_t i = 0; i < m; i++)
-        active |= (uint64_t)((w & l->read_named[i]) == l->read_plain[i]) << i;
+        active |= (uint64_t)((w % WORDS & l->read_named[i] % WORDS) == l->read_plain[i] % WORDS) << i;
     return active;
+}
+
+static uint64_t high_active(const struct literals *l, size_t m, uint32_t w)
+{
+    uint64_t active = 0;
+    for (size_t i = 0; i < m; i++)
+        active |= (uint64_t)((w / WORDS & l->read_named[i] / WORDS) == l->read_plain[i] / WORDS) << i;
+    return active;
+}
+
+static void make_lows(const struct literals *l, size_t m, uint64_t *lows)
+{
+    for (uint32_t j = 0; j < WORDS; j++)
+        lows[j] = low_active(l, m, j);
 }
 
 // The outputs of `own` of the lowest rank among them.
@@ -325,42 +340,114 @@ static bool is_safe(const struct table *t, uint16_t v)
 
 // ---- the verdict
 
+// The bytes of scratch, a bit for each vector.
+static size_t scratch_bytes(size_t n)
+{
+    return n < 3 ? 1 : (size_t)1 << (n - 3);
+}
+
 struct verdict {
     unsigned number; // 0: accepted; else the refusal
     uint32_t word;
     uint16_t request;
 };
 
-// Marks the safe vectors and no others; whether there is one.
-static bool mark_safe(const struct table *t, uint8_t *marks, size_t vectors)
+// Eight vectors that differ in their outputs 0 to 2 alone are judged at once: of each entry the outputs from 3 on, and the byte of the vectors at which its
+// literals of outputs 0 to 2 are true; of the holds likewise.
+struct eight {
+    uint16_t held, f0, f1;
+    uint16_t plain[MOST_CONSTRAINTS], named[MOST_CONSTRAINTS], low[MOST_CONSTRAINTS];
+};
+
+static uint16_t low_true(uint16_t plain, uint16_t named)
 {
-    bool any = false;
-    for (size_t v = 0; v < vectors; v++) {
-        bool safe = is_safe(t, (uint16_t)v);
-        marks[v] = safe;
+    uint16_t low = 0;
+    for (unsigned j = 0; j < 8; j++)
+        low |= (j & named) == (plain & 7u) ? (uint16_t)(1u << j) : 0;
+    return low;
+}
+
+static void make_eight(const struct table *t, struct eight *e, size_t n)
+{
+    uint16_t there = n < 3 ? (uint16_t)((1u << (1u << n)) - 1) : 255;
+    e->held = low_true(t->f1, t->f1) & low_true(0, t->f0) & there;
+    e->f0 = t->f0 / 8;
+    e->f1 = t->f1 / 8;
+    for (size_t i = 0; i < t->count; i++) {
+        e->plain[i] = t->plain[i] / 8;
+        e->named[i] = t->named[i] / 8;
+        e->low[i] = low_true(t->plain[i], t->named[i]);
+    }
+}
+
+// Which of the vectors 8 b to 8 b + 7 are safe.
+static uint8_t safe_byte(const struct eight *e, size_t count, uint16_t b)
+{
+    if ((b & e->f1) != e->f1 || (b & e->f0) != 0)
+        return 0;
+    uint16_t hits = 0;
+    for (size_t i = 0; i < count; i++) {
+        uint16_t low = e->low[i];
+        hits |= (b & e->named[i]) == e->plain[i] ? low : 0;
+    }
+    return (uint8_t)(e->held & ~hits);
+}
+
+// Marks the safe vectors and no others; whether there is one.
+static bool mark_safe(const struct table *t, uint8_t *marks, size_t n, size_t bytes)
+{
+    struct eight e;
+    make_eight(t, &e, n);
+    uint8_t any = 0;
+    for (size_t b = 0; b < bytes; b++) {
+        uint8_t safe = safe_byte(&e, t->count, (uint16_t)b);
+        marks[b] = safe;
         any |= safe;
     }
-    return any;
+    return any != 0;
+}
+
+static bool is_marked(const uint8_t *marks, uint16_t v)
+{
+    return (marks[v / 8] >> v % 8 & 1) != 0;
+}
+
+static void put_mark(uint8_t *marks, uint16_t v)
+{
+    marks[v / 8] |= (uint8_t)(1u << v % 8);
+}
+
+// Marks the path of so many vectors from `from`: the last of them are in the trail, and those before are gone over again.
+static void mark_path(const struct table *t, uint16_t from, unsigned made, const uint16_t *trail, uint8_t *marks)
+{
+    unsigned lost = made < TRAIL ? 0 : made - TRAIL;
+    uint16_t v = from;
+    for (unsigned k = 0; k < lost; k++) {
+        put_mark(marks, v);
+        if (k + 1 < lost)
+            v = pass(t, v);
+    }
+    for (unsigned k = lost; k < made; k++)
+        put_mark(marks, trail[k % TRAIL]);
 }
 
 // Whether the walk from `from` comes to a mark within the limit; its path is then marked.
-static bool settle(const struct table *t, uint16_t from, uint8_t *marks)
+static bool settle(const struct table *t, uint16_t from, uint8_t *marks, uint16_t *trail)
 {
+    if (is_marked(marks, from))
+        return true;
     uint16_t v = from;
     unsigned made = 0;
-    for (; !marks[v]; made++) {
+    for (; !is_marked(marks, v); made++) {
+        trail[made % TRAIL] = v;
         if (made == t->limit)
             return false;
         v = pass(t, v);
     }
-    if (made == 0)
-        return true;
-    marks[from] = 1;
-    v = from;
-    for (unsigned k = 1; k < made; k++) {
-        v = pass(t, v);
-        marks[v] = 1;
-    }
+    if (made == 1)
+        put_mark(marks, from);
+    else
+        mark_path(t, from, made, trail, marks);
     return true;
 }
 
@@ -370,10 +457,15 @@ static size_t place_of(uint64_t active)
     return active % PLACES;
 }
 
-static bool is_any_safe(const struct table *t, size_t vectors)
+// Whether one of the vectors of n outputs is safe: vector 0, or another.
+static bool is_any_safe(const struct table *t, size_t n)
 {
-    for (size_t v = 0; v < vectors; v++)
-        if (is_safe(t, (uint16_t)v))
+    if (is_safe(t, 0))
+        return true;
+    struct eight e;
+    make_eight(t, &e, n);
+    for (size_t b = 0; b < scratch_bytes(n); b++)
+        if (safe_byte(&e, t->count, (uint16_t)b) != 0)
             return true;
     return false;
 }
@@ -381,13 +473,18 @@ static bool is_any_safe(const struct table *t, size_t vectors)
 // The first word from w on without a safe vector, or 2^r. The masks kept are of words that have one.
 static uint32_t first_without(const struct set *s, const struct literals *l, uint32_t w, uint64_t *seen)
 {
+    uint64_t lows[WORDS];
+    make_lows(l, s->m, lows);
+    uint64_t high = high_active(l, s->m, w);
     for (; w < (uint32_t)1 << s->r; w++) {
-        uint64_t active = active_at(l, s->m, w);
+        if (w % WORDS == 0)
+            high = high_active(l, s->m, w);
+        uint64_t active = high & lows[w % WORDS];
         if (seen[place_of(active)] == active)
             continue;
         struct table t;
         enter(l, s->m, active, &t);
-        if (!is_any_safe(&t, (size_t)1 << s->n))
+        if (!is_any_safe(&t, s->n))
             return w;
         seen[place_of(active)] = active;
     }
@@ -397,17 +494,22 @@ static uint32_t first_without(const struct set *s, const struct literals *l, uin
 // The first word that fails, and how.
 static struct verdict first_failing(const struct set *s, const struct literals *l, uint64_t *seen, uint8_t *scratch)
 {
-    size_t vectors = (size_t)1 << s->n;
+    size_t vectors = (size_t)1 << s->n, bytes = scratch_bytes(s->n);
+    uint64_t lows[WORDS], high = 0;
+    uint16_t trail[TRAIL];
+    make_lows(l, s->m, lows);
     for (uint32_t w = 0; w < (uint32_t)1 << s->r; w++) {
-        uint64_t active = active_at(l, s->m, w);
+        if (w % WORDS == 0)
+            high = high_active(l, s->m, w);
+        uint64_t active = high & lows[w % WORDS];
         if (seen[place_of(active)] == active)
             continue;
         struct table t;
         build(s, l, active, &t);
-        if (!mark_safe(&t, scratch, vectors))
+        if (!mark_safe(&t, scratch, s->n, bytes))
             return (struct verdict){ 22, w, 0 };
         for (size_t g = 0; g < vectors; g++)
-            if (!settle(&t, start_vector(&t, (uint16_t)g), scratch))
+            if (!settle(&t, start_vector(&t, (uint16_t)g), scratch, trail))
                 return (struct verdict){ 23, w, (uint16_t)g };
         seen[place_of(active)] = active;
     }
@@ -418,7 +520,7 @@ static struct verdict judge(const struct set *s, uint8_t *scratch, size_t len)
 {
     if (!is_well_formed(s))
         return (struct verdict){ 20, 0, 0 };
-    if (len < (size_t)1 << s->n)
+    if (len < scratch_bytes(s->n))
         return (struct verdict){ 21, 0, 0 };
     struct literals l;
     make_literals(s, &l);
@@ -882,7 +984,7 @@ static uint32_t four(const uint8_t *b)
 
 static uint32_t judge_often(const struct set *s, uint32_t times)
 {
-    static uint8_t scratch[MOST_VECTORS];
+    static uint8_t scratch[MOST_SCRATCH];
     uint32_t sum = SUM_BEGIN;
     for (; times > 0; times--) {
         struct verdict v = judge(s, scratch, sizeof scratch);
@@ -897,7 +999,7 @@ static uint32_t judge_often(const struct set *s, uint32_t times)
 
 static uint32_t scan_often(const struct set *s, uint32_t times)
 {
-    static uint8_t scratch[MOST_VECTORS], head[2], calls[65536 * 6];
+    static uint8_t scratch[MOST_SCRATCH], head[2], calls[65536 * 6];
     static struct state st;
     uint32_t sum = SUM_BEGIN;
     size_t got = fread(head, 1, 2, stdin);

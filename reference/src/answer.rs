@@ -9,7 +9,7 @@ use crate::raw::well_formed;
 use crate::records::{Case, Kept, List, Words};
 use crate::set::{Point, Set};
 use crate::text::{text, text_into};
-use crate::verdict::{judge, Verdict};
+use crate::verdict::{judge, scratch_bytes, Verdict};
 
 /// A text that is not longer than this is printed in full.
 const SHOWN_TEXT: usize = 600;
@@ -50,7 +50,11 @@ fn file_lines(set: &Set, file: &[u8], scans: &[Words]) -> String {
     let (r, n, m) = (set.reads.len(), set.outputs.len(), set.constraints.len());
     let loaded = format!("LOADED {r} {n} {m}\n");
     let found = items("FIND", own_names(set).map(|name| found(Some(set), name)));
-    loaded + &written(set, file) + &found + &printed(set) + &started(set, scans)
+    let start = start(set);
+    let verdict = start.as_ref().err().copied();
+    let scratch = scratch_line(set, verdict.unwrap_or(Verdict::Accepted));
+    let lines = loaded + &written(set, file) + &found + &printed(set) + &scratch;
+    lines + &started(start, scans)
 }
 
 fn written(set: &Set, file: &[u8]) -> String {
@@ -72,9 +76,18 @@ fn printed(set: &Set) -> String {
     format!("TEXT {} {sum}\n{shown}", text.len())
 }
 
+/// The bytes that the verdict needs, and what it answers with just so many and
+/// with one less.
+fn scratch_line(set: &Set, verdict: Verdict) -> String {
+    let needed = scratch(set);
+    let sizes = [needed, needed - 1].into_iter();
+    let line = format!("SCRATCH {needed}");
+    items(&line, sizes.map(|size| judged_in(set, verdict, size)))
+}
+
 /// The start's verdict and, if the set is accepted, the answers to the scans.
-fn started(set: &Set, scans: &[Words]) -> String {
-    match start(set) {
+fn started(start: Result<State, Verdict>, scans: &[Words]) -> String {
+    match start {
         Ok(state) => format!("ACCEPT\n{}", scanned("SCANS", state, scans)),
         Err(Verdict::NoVector(word)) => format!("NOVECTOR {word}\n"),
         Err(Verdict::NoEnd(word, request)) => format!("NOEND {word} {request}\n"),
@@ -173,9 +186,9 @@ fn put(written: Written) -> String {
     }
 }
 
-/// 2^n: the scratch that a verdict needs.
+/// The scratch that the verdict of a set needs.
 fn scratch(set: &Set) -> usize {
-    1 << set.outputs.len()
+    scratch_bytes(set.outputs.len())
 }
 
 /// The verdict with a scratch of this size. What it leaves in the scratch is
@@ -241,6 +254,11 @@ mod tests {
         P.to_vec()
     }
 
+    /// The sum of so many bytes that nothing was written to.
+    fn filled(count: usize) -> u64 {
+        sum(&vec![0xA5; count])
+    }
+
     #[test]
     fn a_file() {
         let scans = vec![(0, 1), (0, 3), (1, 3), (2, 0), (0, 4), (1, 2)];
@@ -250,7 +268,8 @@ mod tests {
             "WRITE 39 same",
             "FIND R0 O0 O1",
             &format!("TEXT {} {}", TEXT.len(), sum(TEXT.as_bytes())),
-            &format!("{TEXT}ACCEPT"),
+            &format!("{TEXT}SCRATCH 1 0:{} 21:{}", filled(16), filled(16)),
+            "ACCEPT",
             "SCANS 0/1 3/0 0/1 !31 !32 0/0 = 1 0 1",
             "",
         ];
@@ -270,7 +289,9 @@ mod tests {
             1, 0, 2, 0, 1, 3, 0, 1, b'A', 4, 0, 2, 64, 0, 4, 0, 2, 192, 0,
         ];
         let both_ways = [both_ways.as_slice(), &[5, 0, 0]].concat();
-        assert!(of(both_ways).ends_with("end\nNOVECTOR 0\n"));
+        let scratch = format!("SCRATCH 1 22/0:{} 21:{}", filled(16), filled(16));
+        let rejected = format!("end\n{scratch}\nNOVECTOR 0\n");
+        assert!(of(both_ways).ends_with(&rejected));
     }
 
     #[test]
@@ -330,18 +351,17 @@ mod tests {
 
     #[test]
     fn buffers() {
-        let filled = |count: usize| sum(&vec![0xA5; count]);
         let front = |bytes: &[u8], count: usize| sum(&[bytes, &vec![0xA5; count]].concat());
         let text = TEXT.len();
         let case = Case::Buffers {
             file: p(),
-            sizes: vec![3, 40],
+            sizes: vec![0, 40],
         };
-        let (short, long) = (filled(19), filled(56));
+        let (short, long) = (filled(16), filled(56));
         let lines = [
             format!("WRITES 24/39:{short} 0/39:{}", front(&P, 17)),
-            format!("JUDGES 21:{short} 0:{}", filled(52)),
-            format!("STARTS 21:{short}=0/0 0:{}=2/0", filled(52)),
+            format!("JUDGES 21:{short} 0:{}", filled(55)),
+            format!("STARTS 21:{short}=0/0 0:{}=2/0", filled(55)),
             format!("LINES 0:{short} 13:{}", front(b"ACCEPT 1 2 2\n", 43)),
             format!("TEXTS 24/{text}:{short} 24/{text}:{long}"),
             String::new(),

@@ -65,6 +65,17 @@ pub fn judge_in_the_old_order(set: &Set) -> Verdict {
     Verdict::Accepted
 }
 
+/// The bytes of scratch that a verdict on n outputs needs: one bit for each
+/// vector, and one byte where there are fewer than eight. With fewer bytes it
+/// is refused by 21. What it leaves in these is free, and bytes behind them stay
+/// as they are.
+pub fn scratch_bytes(n: usize) -> usize {
+    match n {
+        0..3 => 1,
+        _ => (1 << n) / 8,
+    }
+}
+
 /// All read words in rising order.
 fn words(set: &Set) -> std::ops::Range<u32> {
     0..1 << set.reads.len()

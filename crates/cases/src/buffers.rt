@@ -23,6 +23,9 @@ const BEHIND: usize = 16;
 
 const ARENA: usize = 40016;
 
+// The most bytes of scratch that a verdict needs.
+pub const MOST_SCRATCH: usize = 512;
+
 // The bytes of a size in a record.
 const SIZE_BYTES: usize = 2;
 
@@ -51,15 +54,11 @@ fn exact() -> Left {
     }
 }
 
-fn vectors(n: usize) -> usize {
-    if n < 16 { 1usize << n } else { 0 }
-}
-
 // The first bytes of scratch whose content a verdict leaves free, for a set of n outputs.
 fn free_scratch(n: usize, v: Verdict) -> usize {
     match v {
         Verdict::ShortScratch => 0,
-        _ => vectors(n),
+        _ => verdict::scratch_bytes(n),
     }
 }
 
@@ -141,6 +140,34 @@ fn print_sizes(operation: Operation, set: Set, told: Line, sizes: &[u8]) {
     while SIZE_BYTES <= sizes.len() - i {
         print_size(operation, set, told, two_of(behind(sizes, i)) as usize);
         i = i + SIZE_BYTES;
+    }
+    end_line();
+}
+
+// The verdict with the first `len` bytes of the arena as scratch, and the sum of the bytes whose content is told.
+fn print_judged_in(set: Set, arena: &mut [u8], len: usize) {
+    if len <= arena.len() {
+        let left = lend_judge(set, &mut arena[0..len]);
+        print_sum(b':', behind(&*arena, left.free));
+    }
+}
+
+// The verdict with so many bytes of scratch, 16 more behind them.
+fn print_judged_with(set: Set, len: usize) {
+    let mut arena = [FILL; MOST_SCRATCH + BEHIND];
+    if len <= MOST_SCRATCH {
+        print_judged_in(set, &mut arena[0..len + BEHIND], len);
+    }
+}
+
+// The bytes of scratch that the verdict on a set needs; the verdict with just as many, and with one less.
+pub fn print_scratch(set: Set) {
+    let bytes = verdict::scratch_bytes(set.n);
+    io::write_all(1, b"SCRATCH");
+    print_behind(b' ', bytes);
+    print_judged_with(set, bytes);
+    if 0 < bytes {
+        print_judged_with(set, bytes - 1);
     }
     end_line();
 }

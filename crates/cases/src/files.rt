@@ -1,6 +1,8 @@
 // A file: the verdict program's line, and what the operations answer of the set that it holds.
 use super::answers::print_verdict;
 use super::answers::print_written;
+use super::buffers::MOST_SCRATCH;
+use super::buffers::print_scratch;
 use super::names::print_own_names;
 use super::printing::end_line;
 use super::printing::print_behind;
@@ -8,6 +10,7 @@ use super::states::print_list;
 use super::texts::print_text;
 use line::Line;
 use scan::Set;
+use start::Started;
 use verdict::Verdict;
 use writer::Written;
 ghost use Prim.Native.Nat.{_≤_};
@@ -98,10 +101,16 @@ fn print_rejected(v: Verdict) {
     end_line();
 }
 
+// The start with just the scratch that the verdict needs.
+fn start_exact(set: Set) -> Started {
+    let mut scratch = [0u8; MOST_SCRATCH];
+    let bytes = least(MOST_SCRATCH, verdict::scratch_bytes(set.n));
+    start::start(set, &mut scratch[0..bytes])
+}
+
 // The verdict of the start and, if the set is accepted, the scans.
 fn print_started(set: Set, calls: &[u8]) {
-    let mut scratch = io::buffer();
-    let started = start::start(set, &mut scratch);
+    let started = start_exact(set);
     let v = started.verdict;
     match v {
         Verdict::Accepted => {
@@ -122,5 +131,6 @@ pub fn print_file(set: Set, file: &[u8], calls: &[u8]) {
     print_rewritten(set, file);
     print_own_names(set);
     print_text(set);
+    print_scratch(set);
     print_started(set, calls);
 }

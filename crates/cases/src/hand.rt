@@ -362,18 +362,18 @@ fn print_writes() {
 
 fn print_verdicts() {
     io::write_all(1, b"judge, start:");
-    let mut exact = [FILL; 4];
-    print_judged_p(&mut exact, 4);
+    let mut exact = [FILL; 1];
+    print_judged_p(&mut exact, 1);
     let mut long = [FILL; 64];
-    print_judged_p(&mut long, 4);
+    print_judged_p(&mut long, 1);
     let mut short = [FILL; 3];
-    print_judged_p(&mut short, 0);
+    print_judged_p(&mut short[0..0], 0);
     let mut bad = [FILL; 3];
     print_judged(stray_rank(), &mut bad, 0);
     let mut two = [FILL; 8];
-    print_judged(set_clashing(), &mut two, 2);
+    print_judged(set_clashing(), &mut two, 1);
     let mut four = [FILL; 8];
-    print_judged(set_endless(), &mut four, 4);
+    print_judged(set_endless(), &mut four, 1);
     io::write_all(1, b"\n");
 }
 
@@ -423,7 +423,7 @@ fn print_resting(rest: u16) {
     let set = p_resting(rest);
     let mut buf = [FILL; 64];
     print_write(set, &mut buf, 44);
-    let mut scratch = [FILL; 4];
+    let mut scratch = [FILL; 1];
     let started = start::start(set, &mut scratch);
     let w = started.verdict;
     print_verdict(b' ', w);

@@ -5,7 +5,7 @@ use libc::STDOUT_FILENO;
 fn main() {
     let mut file = io::buffer();
     let n = io::read_full(STDIN_FILENO, &mut file);
-    let mut scratch = io::buffer();
+    let mut scratch = [0u8; 512];
     let told = line::judge_file(&file[..n], &mut scratch);
     let mut out = [0u8; 80];
     let len = line::put_line(told, &mut out);

@@ -1,4 +1,4 @@
--- A loaded set is well formed and has at most 4,096 vectors: with 4,096 bytes of scratch its verdict is neither 20 nor 21, but one of those that mean something.
+-- A loaded set is well formed and has at most 4,096 vectors: with 512 bytes of scratch, a bit for each, its verdict is neither 20 nor 21, but one of those that mean something.
 -- Assumes nothing.
 use mathlib.Core.Path.{_≡_}
 use mathlib.Core.Bool.{true}
@@ -14,11 +14,11 @@ use Rattle.loader.specs.Load.{loadOf}
 use Rattle.setfile.proofs.WriteLoaded.{write-loaded}
 use Rattle.verdict.specs.Judge.{judgeOf}
 use Rattle.verdict.specs.Meaning.{Means}
-use Rattle.verdict.proofs.JudgeLaws.{scratch-is, scratch-mono}
+use Rattle.verdict.proofs.JudgeLaws.{scratch-eighth, scratch-mono}
 use Rattle.verdict.proofs.MeaningLaws.{verdict-means}
 
-pub loaded-judged : (file : List ℕ) (room : ℕ) → Bytes file → 4096 ≤ room → loadOf file .answer ≡ Loaded → Means (loadOf file .set) (judgeOf (loadOf file .set) room)
+pub loaded-judged : (file : List ℕ) (room : ℕ) → Bytes file → 512 ≤ room → loadOf file .answer ≡ Loaded → Means (loadOf file .set) (judgeOf (loadOf file .set) room)
 loaded-judged file room bytes enough loaded =
     let ok : wellFormed (loadOf file .set) ≡ true = write-loaded file bytes loaded .1 in
     let few = scratch-mono (loadOf file .set .n) mostOutputs (counts (loadOf file .set) ok .n-le) in
-    verdict-means (loadOf file .set) ok room (omega (arith, few, scratch-is mostOutputs))
+    verdict-means (loadOf file .set) ok room (omega (arith, few, scratch-eighth mostOutputs (omega arith)))

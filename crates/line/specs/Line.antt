@@ -41,7 +41,7 @@ bufferAfter l buf = let bytes = lineBytes l in cond (leb (length bytes) (length 
 
 -- ---- the line of a file
 
--- the line of a verdict; 20 and 21, which a loaded set with 4,096 bytes of scratch never gets, at offset 0
+-- the line of a verdict; 20 and 21, which a loaded set with 512 bytes of scratch never gets, at offset 0
 abbrev pub verdictLine : Set → Verdict → Line
 verdictLine s Accepted = Accept (s .r) (s .n) (s .m)
 verdictLine s BadSet = Load 20 0

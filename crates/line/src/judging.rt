@@ -9,7 +9,7 @@ ghost use mathlib.Core.Path.{_≡_};
 ghost use lib.ListN.{length, drop};
 ghost use Rattle.line.specs.Line.{verdictLine, lineOf, looseOf};
 
-// The line of a verdict. A loaded set is well formed and has at most 4,096 vectors, so with 4,096 bytes of scratch the verdict
+// The line of a verdict. A loaded set is well formed and has at most 4,096 vectors, so with 512 bytes of scratch the verdict
 // never is a bad set or short scratch; these two are given as LOAD with their refusals 20 and 21, at offset 0.
 fn verdict_line(set: Set, verdict: Verdict) -> Line
     ensures { λ r. ⌜ r ≡ verdictLine set verdict ⌝ }

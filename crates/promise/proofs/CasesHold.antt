@@ -24,7 +24,7 @@ use Rattle.literal.specs.Literal.{narrows, withLiteral, literalsFrom}
 use Rattle.loader.specs.Load.{countsAt, nameField, kindOf, readField, readOf, readAt, readsFrom, outputOf, outputAt, outputsFrom, restAt, constraintAt, constraintsFrom, loadFrom, loadOf}
 use Rattle.decimal.specs.Decimal.{leading, decimal}
 use Rattle.text.specs.Text.{restLine, readLiteral, outputLiteral, neverLine, shownLines, spacedWords, linesText, textOf}
-use Rattle.promise.specs.Cases.{AllAnswered, starred, further, orderCases, restCases, scanCases, findCases, textCases}
+use Rattle.promise.specs.Cases.{AllAnswered, starred, further, orderCases, restCases, scratchCases, scanCases, findCases, textCases}
 
 pub starred-hold : AllAnswered starred
 unfolding onesIn odd bit without meets popcount gather bitIf word some all firstFrom first zeroSet constraint kind nameByte nameLength placeOk nameOk
@@ -63,6 +63,14 @@ unfolding onesIn odd bit without meets popcount gather bitIf word some all first
     rawOf headerOf spelling nameField kindOf readField readOf readAt readsFrom outputOf outputAt outputsFrom restAt narrows withLiteral literalsFrom constraintAt
     constraintsFrom countsAt loadFrom loadOf allNameBytes isUsed
 rests-worked = refl
+
+pub scratch-worked : AllAnswered scratchCases
+unfolding onesIn odd bit without meets popcount gather bitIf word some all firstFrom first zeroSet constraint kind nameByte nameLength placeOk nameOk
+    nameZero sameName readNamed firstRead outputNamed firstOutput countTests lengthTests kindOk readOk readZero readPlace outputOk outputPlace rankOk
+    constraintTests constraintZero constraintPlace setTests wellFormed readsTrue outsTrue isTrue simple combined trueAt safe holding toZero toOne F0
+    F1 unheldBy unheld unheldCount startFrom startVector lowest hasRank yielding yields fires flips pass walkBy walk readingAt readWord stateOk isPast
+    sensorOk requestOk scanOf run hasVector endless lacks hasEndless vectorAt endlessAt judgeWords scratchBytes judgeOf startOf
+scratch-worked = refl
 
 pub scans-worked : AllAnswered scanCases
 unfolding onesIn odd bit without meets popcount gather bitIf word some all firstFrom first zeroSet constraint kind nameByte allNameBytes nameLength

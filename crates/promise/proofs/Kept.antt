@@ -18,7 +18,6 @@ use Rattle.scan.specs.Walk.{passesDue}
 use Rattle.machine.specs.Told.{scanTold}
 use Rattle.machine.proofs.MachineLaws.{sends-due, scan-answers, scan-keeps-set}
 use Rattle.verdict.specs.Judge.{judgeOf}
-use Rattle.verdict.proofs.JudgeLaws.{scratch-is}
 use Rattle.start.specs.Start.{startOf}
 use Rattle.loader.specs.declared.loader.Loaded.{Loaded}
 use Rattle.header.specs.Bytes.{Bytes}
@@ -52,6 +51,7 @@ use Rattle.promise.proofs.OneText.{one-set, one-text}
 use Rattle.promise.proofs.TextRefusals.{text-refusals}
 use Rattle.promise.proofs.ExactVerdicts.{told-accepted, exact-verdict, exact-start}
 use Rattle.promise.proofs.OneGroups.{one-group}
+use Rattle.promise.proofs.OneBits.{scratch-size, one-bit, by-eights}
 use Rattle.promise.proofs.ScanLists.{sends-mean, right-scans}
 use Rattle.promise.proofs.PowerUps.{power-up}
 use Rattle.promise.proofs.RestWords.{rest-word}
@@ -78,7 +78,7 @@ demand-1 = record {
   loading = load-refusals;
   writing = write-refusals;
   verdict = verdict-refusals;
-  scratch = scratch-is;
+  scratch = scratch-size;
   scan = scan-refusals;
   finding = find-refusals;
   formed = formed;
@@ -139,6 +139,7 @@ unfolding startOf
 demand-3 = record {
   verdict = exact-verdict;
   one-group = λ s room ok enough. one-group s ok room enough;
+  one-bit = one-bit;
   start = exact-start;
   scans = λ s room e calls. right-scans s room (told-accepted (judgeOf s room) e) calls;
 }
@@ -166,6 +167,7 @@ promise = record {
   power-up = power-up;
   rest-word = rest-word;
   by-active = λ s w ok. by-active s ok w;
+  by-eights = λ s w ok. by-eights s ok w;
   name-bytes = name-bytes-iff;
   files = file-says;
   lone-ranks = lone-ranks-unread;

@@ -24,6 +24,7 @@ pub mod LoneRankMeanings
 pub mod RestWords
 pub mod ExactVerdicts
 pub mod OneGroups
+pub mod OneBits
 pub mod ScanLists
 pub mod WrittenFields
 pub mod BodyLiterals

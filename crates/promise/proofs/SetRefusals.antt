@@ -30,7 +30,7 @@ module _ (s : Set) (room : ℕ) where
   judge-short ok h = ap verdictTold (sym (short-scratch s room ok h))
 
   -- with a well-formed set and scratch enough the verdict is neither
-  judge-neither : wellFormed s ≡ true → scratchBytes (s .n) ≤ room → (verdictTold (judgeOf s room) ≢ 20 ∷ []) × (verdictTold (judgeOf s room) ≢ 21 ∷ [])
+  pub judge-neither : wellFormed s ≡ true → scratchBytes (s .n) ≤ room → (verdictTold (judgeOf s room) ≢ 20 ∷ []) × (verdictTold (judgeOf s room) ≢ 21 ∷ [])
   judge-neither ok h = go (judgeOf s room) (verdict-means s ok room h)
     where
       go : (v : Verdict) → Means s v → (verdictTold v ≢ 20 ∷ []) × (verdictTold v ≢ 21 ∷ [])

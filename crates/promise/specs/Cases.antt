@@ -1,5 +1,5 @@
 -- Worked cases: the starred ones of document 01's "Tried by hand", the edge case as change request K2 has it, those for what they leave open, some of
--- them from the bytes of a file, and those of change requests K5 and K6.
+-- them from the bytes of a file, and those of change requests K5, K6 and K8.
 -- Assumes nothing.
 use Prim.Native.Nat.{ℕ, _^_}
 use mathlib.Core.Path.{_≡_}
@@ -19,7 +19,7 @@ use Rattle.shape.specs.Told.{findTold}
 use Rattle.machine.specs.History.{Call, run}
 use Rattle.machine.specs.Told.{scanTold}
 use Rattle.scan.specs.Samples.{name7, name07, name007, setP, P, sensorS, nameA, nameB, readOf, setOf, product, clashing, endless, equalRanks, twoPairs, risingEdge, forcedOn, afterB, threePasses}
-use Rattle.verdict.specs.Judge.{judgeOf}
+use Rattle.verdict.specs.Judge.{scratchBytes, judgeOf}
 use Rattle.verdict.specs.FirstFailing.{firstFailing}
 use Rattle.start.specs.Start.{startOf}
 use Rattle.verdict.specs.Told.{verdictTold}
@@ -53,9 +53,9 @@ pub data Case : Type 0 where
   -- these bytes are loaded, and the rest word of their set is this
   rests : List ℕ → ℕ → Case
 
--- scratch enough
+-- just as many bytes of scratch as are enough
 abbrev pub enough : Set → ℕ
-enough s = 2 ^ s .n
+enough s = scratchBytes (s .n)
 
 -- the verdict of a start of the set, and the answers of scans from it
 abbrev pub started : Set → List Call → List (List ℕ)
@@ -178,10 +178,10 @@ abbrev pub further : List Case
 further =
     -- 20 before 21; 21 with one byte too few; exactly enough
     judged zeroSet 0 (no 20)
-    ∷ judged P 3 (no 21)
-    ∷ judged P 4 (no 0)
+    ∷ judged P 0 (no 21)
+    ∷ judged P 1 (no 0)
     -- the first of two words that fail
-    ∷ judged clashingLater 2 (22 ∷ 2 ∷ [])
+    ∷ judged clashingLater 1 (22 ∷ 2 ∷ [])
     -- F1 holds A to 1 in the start vector
     ∷ scans forcedOn (call 1 0 ∷ call 0 0 ∷ []) (sent 1 0 ∷ sent 0 0 ∷ [])
     -- the past of a refused scan is not read: neither its sensor word, nor a vector
@@ -302,8 +302,8 @@ restCases =
     -- a rest word that is not safe is good: "A and B", and both rest on
     ∷ scans (withRest equalRanks 3) (call 0 3 ∷ []) (sent 0 1 ∷ [])
     -- a rest word out of width makes a set that is not well formed
-    ∷ judged (withRest P 4) 4 (no 20)
-    ∷ judged (withRest P 3) 4 (no 0)
+    ∷ judged (withRest P 4) 1 (no 20)
+    ∷ judged (withRest P 3) 1 (no 0)
     -- 54: 0; a bit outside n; the two bytes exchanged
     ∷ loads (fileWith (restBytes 0 0)) (54 ∷ 19 ∷ [])
     ∷ loads (fileWith (restBytes 0 4)) (54 ∷ 19 ∷ [])
@@ -418,3 +418,47 @@ textOfRest =
 -- texts, two of them of sets from the bytes of their files
 abbrev pub textCases : List Case
 textCases = texts P textP ∷ texts (loadOf fileOfKinds .set) textOfKinds ∷ texts (loadOf (fileWith (restBytes 0 3)) .set) textOfRest ∷ []
+
+-- ---- change request K8: one bit of scratch for each vector
+
+-- no sensors, and so many of the outputs A to M: all of them may be on
+abbrev pub idle : ℕ → Set
+idle n = setOf [] (take n (map (λ (c : ℕ). c ∷ []) (0x41 ∷ 0x42 ∷ 0x43 ∷ 0x44 ∷ 0x45 ∷ 0x46 ∷ 0x47 ∷ 0x48 ∷ 0x49 ∷ 0x4A ∷ 0x4B ∷ 0x4C ∷ []))) []
+
+-- of outputs A to D "D and not C" where C yields, "D and C" where C yields too: the walk from D alone, vector 8, the first of the second byte, goes round
+abbrev pub circlingAt8 : Set
+circlingAt8 =
+    setOf [] ((0x41 ∷ []) ∷ (0x42 ∷ []) ∷ (0x43 ∷ []) ∷ (0x44 ∷ []) ∷ [])
+    (product 0 0 8 4 (0 ∷ 0 ∷ 0 ∷ 1 ∷ []) ∷ product 0 0 12 0 (0 ∷ 0 ∷ 0 ∷ 1 ∷ []) ∷ [])
+
+-- of outputs A to D "s and D", "s and not C", "s and not A": of the vectors where s is on those with A and C on and D off are safe, 5 and 7
+abbrev pub lateAt1 : Set
+lateAt1 =
+    setOf (sensorS ∷ []) ((0x41 ∷ []) ∷ (0x42 ∷ []) ∷ (0x43 ∷ []) ∷ (0x44 ∷ []) ∷ [])
+    (product 1 0 8 0 [] ∷ product 1 0 0 4 [] ∷ product 1 0 0 1 [] ∷ [])
+
+abbrev pub scratchCases : List Case
+scratchCases =
+    -- one byte up to three outputs, two for four, 512 for twelve; 21 with one less, and 20 before it
+    judged (idle 1) 0 (no 21)
+    ∷ judged (idle 1) 1 (no 0)
+    ∷ judged (idle 2) 0 (no 21)
+    ∷ judged (idle 2) 1 (no 0)
+    ∷ judged (idle 3) 0 (no 21)
+    ∷ judged (idle 3) 1 (no 0)
+    ∷ judged (idle 4) 1 (no 21)
+    ∷ judged (idle 4) 2 (no 0)
+    ∷ judged (idle 12) 511 (no 21)
+    ∷ judged (withRest (idle 4) 16) 1 (no 20)
+    -- with a byte for each vector, and with more, it is the same verdict
+    ∷ judged (idle 4) 16 (no 0)
+    ∷ judged P 4 (no 0)
+    ∷ judged clashing 1 (22 ∷ 1 ∷ [])
+    ∷ judged clashing 2 (22 ∷ 1 ∷ [])
+    ∷ judged endless 1 (23 ∷ 0 ∷ 1 ∷ [])
+    ∷ judged endless 4096 (23 ∷ 0 ∷ 1 ∷ [])
+    -- a walk that goes round in the second byte; vectors that are safe in the middle of a byte
+    ∷ judged circlingAt8 2 (23 ∷ 0 ∷ 8 ∷ [])
+    ∷ judged circlingAt8 16 (23 ∷ 0 ∷ 8 ∷ [])
+    ∷ scans lateAt1 (call 1 0 ∷ call 1 15 ∷ call 0 8 ∷ call 1 2 ∷ []) (sent 5 0 ∷ sent 7 0 ∷ sent 8 0 ∷ sent 7 0 ∷ [])
+    ∷ []

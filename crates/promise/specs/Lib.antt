@@ -7,6 +7,7 @@ pub mod FileSays
 pub mod Texts
 pub mod Verdicts
 pub mod OneGroup
+pub mod OneBit
 pub mod Meanings
 pub mod Scans
 pub mod NeverTold

@@ -54,7 +54,7 @@ noEndWord = 0x4E ∷ 0x4F ∷ 0x45 ∷ 0x4E ∷ 0x44 ∷ []
 
 -- the scratch that the program lends to the verdict
 abbrev pub programScratch : ℕ
-programScratch = 4096
+programScratch = 512
 
 -- what is printed of what was read
 abbrev pub printedOf : List ℕ → List ℕ

@@ -4,7 +4,7 @@
 -- `findTold` give document 01's number of an answer, 0 for one that is no refusal, with its values.
 -- What the demands say of these is said in document 01's own terms, in bits, bytes and numbers (specs/Terms, Allowed, Verdicts, Scans, Column); where
 -- they name a definition that the code meets too (`after`, `vectorDue`, `passesDue`, `wordOf`, `readAfter`), specs/Meanings and specs/Scans say what it
--- is; specs/PowerUp has change request K2, specs/OneGroup K5, specs/RestWord K6; and specs/FileSays says what stands in a file.
+-- is; specs/PowerUp has change request K2, specs/OneGroup K5, specs/RestWord K6, specs/OneBit K8; and specs/FileSays says what stands in a file.
 -- Every call ends: a function of Rattle that is proved returns.
 -- Assumes nothing.
 use mathlib.Core.Path.{_≡_}
@@ -41,6 +41,7 @@ use Rattle.promise.specs.Lines.{LineSays}
 use Rattle.promise.specs.Texts.{Texts}
 use Rattle.promise.specs.Verdicts.{EndsSafe, GoodWord, BadWord, FirstNoVector, FirstNoEnd}
 use Rattle.promise.specs.OneGroup.{OneGroup}
+use Rattle.promise.specs.OneBit.{ScratchSize, OneBit, ByEights}
 use Rattle.promise.specs.Scans.{SendsDue, EveryRight, StateOfList}
 use Rattle.promise.specs.NeverTold.{NeverTold}
 use Rattle.promise.specs.PowerUp.{PowerUp}
@@ -114,8 +115,8 @@ pub record Demand1 : Type 0 where
   pub loading : (file : List ℕ) → LoadRefusals file
   pub writing : (s : Set) (buf : List ℕ) → WriteRefusals s buf
   pub verdict : (s : Set) (room : ℕ) → VerdictRefusals s room
-  -- the scratch that a verdict needs: a byte for each of the 2 ^ n vectors
-  pub scratch : (n : ℕ) → scratchBytes n ≡ 2 ^ n
+  -- the scratch that a verdict needs: a bit for each of the 2 ^ n vectors
+  pub scratch : (n : ℕ) → ScratchSize n
   pub scan : (st : State) (present request : ℕ) → ScanRefusals st present request
   pub finding : (s : Set) (bytes : List ℕ) → FindRefusals s bytes
   -- a set is well formed exactly when some file of bytes loads to it, and the set with every field zero is not
@@ -193,6 +194,8 @@ pub record Demand3 : Type 0 where
   pub verdict : (s : Set) (room : ℕ) → wellFormed s ≡ true → scratchBytes (s .n) ≤ room → ExactVerdict s room
   -- just one group of the answers in document 01's order changed
   pub one-group : (s : Set) (room : ℕ) → wellFormed s ≡ true → scratchBytes (s .n) ≤ room → OneGroup s room
+  -- with a bit of scratch for each vector in place of a byte only 21 moved
+  pub one-bit : (s : Set) (room : ℕ) → OneBit s room
   pub start : (s : Set) (room : ℕ) → ExactStart s room
   pub scans : (s : Set) (room : ℕ) → verdictTold (startOf s room .verdict) ≡ 0 ∷ [] → (calls : List Call) → RightScans s room calls
 
@@ -212,6 +215,8 @@ pub record Promise : Type 0 where
   pub rest-word : RestWord
   -- holds looked up once for a word: judging and walking by the active constraints, and no read word
   pub by-active : (s : Set) (w : ℕ) → wellFormed s ≡ true → ByActive s w
+  -- the verdict inside the box: eight vectors judged at once, and eight read words in a row
+  pub by-eights : (s : Set) (w : ℕ) → wellFormed s ≡ true → ByEights s w
   -- a name byte is 0x21 to 0x7E
   pub name-bytes : (bytes : List ℕ) → NameBytesMean bytes
   -- what a file says

@@ -6,14 +6,14 @@ use mathlib.Core.List.{List}
 use Prim.Native.Nat.{ℕ, _^_, _<_}
 use native.Mathlib.Nat.{min-eq-left, lt-of-lt-of-le}
 use lib.Dec.{eqb}
-use lib.ListN.{getD, List·getD-append}
+use lib.ListN.{getD}
 use lib.Bits.{bitAnd}
 use lib.Pow.{pow-mono}
 use Rattle.words.specs.Word.{bit, without}
-use Rattle.words.specs.Loop.{gather, word, listed}
+use Rattle.words.specs.Loop.{gather, word}
 use Rattle.words.proofs.BoolLaws.{and-assoc, and-swap}
 use Rattle.words.proofs.BitLaws.{bit-and, bit-without, meets-once}
-use Rattle.words.proofs.LoopLaws.{bit-word, word-lt, word-cong, gather-cong, listed-long, getD-listed}
+use Rattle.words.proofs.LoopLaws.{bit-word, word-lt, word-cong, gather-cong}
 use Rattle.scan.specs.declared.set.Constraint.{Constraint}
 use Rattle.scan.specs.declared.set.Set.{Set}
 use Rattle.scan.specs.declared.columns.Columns.{Columns}
@@ -26,6 +26,7 @@ use Rattle.scan.specs.Pass.{fires}
 use Rattle.scan.specs.way.Columns.{counted, ofEach, columnUpto, column, simpleAt, columnsOf, entryTrue, activeBy}
 use Rattle.scan.specs.way.Holds.{holdsOf, keptAt, holdsBy}
 use Rattle.scan.proofs.ShapeLaws.{counts, masks}
+use Rattle.scan.proofs.PlacesLaws.{places-at}
 use Rattle.scan.proofs.ConstraintLaws.{combined-is}
 
 -- ---- the mask
@@ -50,10 +51,7 @@ module _ (s : Set) (ok : wellFormed s ≡ true) where
   -- place i of a column is constraint i's
   pub column-at : (f : Constraint → ℕ) (i : ℕ) → i < s .m → getD (column s f) i 0 ≡ f (constraint s i)
   unfolding columnUpto
-  column-at f i h =
-      let l : i < counted s = subst (λ (m : ℕ). i < m) (sym counted-all) h in
-      List·getD-append (listed (counted s) (ofEach s f)) _ 0 i (subst (λ (m : ℕ). i < m) (sym (listed-long (ofEach s f) (counted s))) l)
-      ∙ getD-listed (ofEach s f) 0 (counted s) i l
+  column-at f i h = places-at (ofEach s f) (counted s) i (subst (λ (m : ℕ). i < m) (sym counted-all) h)
 
   simple-bit : (i : ℕ) → i < s .m → bit i (columnsOf s .simple) ≡ simple (constraint s i)
   unfolding columnsOf simpleAt

@@ -7,7 +7,10 @@ pub mod ConstraintLaws
 pub mod SafeLaws
 pub mod WalkLaws
 pub mod SameDue
+pub mod PlacesLaws
 pub mod ActiveLaws
+pub mod BlockLaws
 pub mod TableLaws
 pub mod EntriesLaws
+pub mod EightLaws
 pub mod LoneRanks

@@ -16,7 +16,6 @@ ghost use Prim.Native.Nat.{_≤_};
 ghost use lib.Dec.{eqb};
 ghost use lib.Bits.{bitAnd};
 ghost use Rattle.words.specs.Word.{without};
-ghost use Rattle.words.specs.Loop.{some};
 ghost use Rattle.scan.specs.Set.{mostConstraints};
 ghost use Rattle.scan.specs.way.Holds.{holdsBy};
 ghost use Rattle.scan.specs.way.Table.{filledUp, tableBy, flipsOver, passOver, anyTrue, safeOver};
@@ -96,7 +95,7 @@ pub fn build_by<'a>(
 }
 
 // What an entry flips at the vector v.
-fn flip_if(v: u16, plain: u16, named: u16, flip: u16) -> u16
+pub fn flip_if(v: u16, plain: u16, named: u16, flip: u16) -> u16
     ensures { λ r. ⌜ r ≡ cond (eqb (bitAnd v named) plain) flip 0 ⌝ }
 {
     if v & named == plain { flip } else { 0 }
@@ -170,25 +169,4 @@ pub fn is_safe<'a>(
     } else {
         false
     }
-}
-
-// Whether one of the vectors below `end` is safe.
-pub fn is_any_safe<'a>(
-    f0: u16,
-    f1: u16,
-    plain: &'a [u16; MOST_CONSTRAINTS],
-    named: &'a [u16; MOST_CONSTRAINTS],
-    count: usize,
-    end: u16,
-) -> bool
-    ensures { λ r. ⌜ r ≡ some end (safeOver f0 f1 (now (plain .entry)) (now (named .entry)) count) ⌝ }
-{
-    let mut v: u16 = 0;
-    while v < end {
-        if is_safe(f0, f1, plain, named, count, v) {
-            return true;
-        }
-        v = v + 1;
-    }
-    false
 }

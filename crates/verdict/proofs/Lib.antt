@@ -4,6 +4,7 @@ pub mod FirstFailingLaws
 pub mod MeaningLaws
 pub mod FailingStays
 pub mod MarksLaws
+pub mod PathsLaws
 pub mod WordMarks
 pub mod SeenLaws
 pub mod JudgeAlike

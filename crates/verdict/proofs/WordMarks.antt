@@ -1,20 +1,18 @@
 -- Marks at one read word of a well-formed set: they are right from the safe vectors on, stay right as requests are settled, and tell which walk
 -- never is safe.
 -- Assumes nothing.
-use mathlib.Core.Path.{_≡_, refl, sym, ap, ap₂, _∙_, subst, fun-ext}
-use mathlib.Core.Bool.{Bool, true, false, cond, not}
+use mathlib.Core.Path.{_≡_, refl, sym, ap, _∙_, subst, fun-ext}
+use mathlib.Core.Bool.{Bool, true, false, not, _||_}
 use mathlib.Core.List.{List}
-use Prim.Native.Nat.{ℕ, zero, suc, _+_, _-_, _^_, _≤_, _<_}
-use native.Mathlib.Decide.{ℕ-discrete, decLt}
+use Prim.Native.Nat.{ℕ, zero, suc, _+_, _-_, _/_, _^_, _≤_, _<_}
 use native.Mathlib.Omega.{arith}
 use lib.Dec.{eqb}
-use lib.ListN.{length, getD, set, length-set, List·getD-eq-default}
-use lib.Seq.{getD-set-same, getD-set-other}
+use lib.ListN.{length}
 use lib.Pow.{pow-pos}
-use borrow.Author.Tests.{ltb-true, ltb-false, not-true, not-false}
-use Rattle.words.specs.Loop.{some, iterate}
-use Rattle.words.proofs.BoolLaws.{by-test, clash}
-use Rattle.words.proofs.LoopLaws.{First, first-spec, listed-long, getD-listed}
+use borrow.Author.Tests.{eqb-true, ltb-true, ltb-false, not-true, not-false}
+use Rattle.words.specs.Loop.{some, first, iterate}
+use Rattle.words.proofs.BoolLaws.{by-test, clash, or-true, or-left}
+use Rattle.words.proofs.LoopLaws.{First, first-spec, first-cong, listed-long}
 use Rattle.words.proofs.Orbit.{iterate-add}
 use Rattle.scan.specs.declared.set.Set.{Set}
 use Rattle.scan.specs.Shape.{wellFormed}
@@ -28,63 +26,40 @@ use Rattle.scan.specs.Walk.{after, Reaches}
 use Rattle.scan.proofs.PassLaws.{after-lt}
 use Rattle.scan.proofs.TableLaws.{table-safe, table-pass, table-start, table-limit}
 use Rattle.scan.proofs.WalkLaws.{ReachesFrom, safe-reaches, meets-reaches, walk-due, walk-never}
-use Rattle.verdict.specs.Judge.{isNever, endless}
-use Rattle.verdict.specs.way.Marks.{marked, markOf, markedWhere, passesToMark, comesToMark, pathMarked, settled}
-use Rattle.verdict.proofs.MarksLaws.{markedAfter}
+use Rattle.verdict.specs.Judge.{isNever, endless, scratchBytes}
+use Rattle.verdict.specs.way.Marks.{marked, withMark, markByte, markedWhere}
+use Rattle.verdict.specs.way.Paths.{passesToMark, comesToMark, pathMarked, settled, settledUpto, stuckAt}
+use Rattle.verdict.proofs.MarksLaws.{byte-lt, mark-length, marked-more, marked-here, marked-passes}
+use Rattle.verdict.proofs.PathsLaws.{markedAfter}
 
--- a byte for each vector; a mark says that passes lead to a safe vector; every safe vector is marked
+-- a bit for each vector; a mark says that passes lead to a safe vector; every safe vector is marked
 pub record Ready (s : Set) (w : ℕ) (marks : List ℕ) : Type 0 where
-  pub long : length marks ≡ 2 ^ s .n
+  pub long : length marks ≡ scratchBytes (s .n)
   pub sound : (v : ℕ) → marked marks v ≡ true → ReachesFrom s w v
   pub complete : (v : ℕ) → v < 2 ^ s .n → safe s w v ≡ true → marked marks v ≡ true
 
--- ---- the safe vectors
-
-mark-byte : (b : Bool) → eqb (cond b 1 0) 1 ≡ b
-mark-byte true = refl
-mark-byte false = refl
-
-where-marked : (ok : ℕ → Bool) (n v : ℕ) → v < n → marked (markedWhere n ok) v ≡ ok v
-unfolding marked
-where-marked ok n v h = ap (λ (x : ℕ). eqb x 1) (getD-listed (markOf ok) 0 n v h) ∙ mark-byte (ok v)
-
-marked-below : (marks : List ℕ) (v : ℕ) → marked marks v ≡ true → v < length marks
-unfolding marked
-marked-below marks v e = go (decLt v (length marks))
-  where
-    go : Dec (v < length marks) → v < length marks
-    go (yes h) = h
-    go (no nh) = clash e (ap (λ (x : ℕ). eqb x 1) (List·getD-eq-default marks 0 (omega arith)))
-
 module _ (s : Set) (ok : wellFormed s ≡ true) (w : ℕ) where
-  pub ready-safe : Ready s w (markedWhere (2 ^ s .n) (safe s w))
+  -- ---- the safe vectors
+
+  pub ready-safe : Ready s w (markedWhere (s .n) (safe s w))
   ready-safe = record {
-    long = listed-long (markOf (safe s w)) (2 ^ s .n);
-    sound = λ v e.
-        let h = subst (λ (m : ℕ). v < m) (listed-long (markOf (safe s w)) (2 ^ s .n)) (marked-below (markedWhere (2 ^ s .n) (safe s w)) v e) in
-        safe-reaches s w v (sym (where-marked (safe s w) (2 ^ s .n) v h) ∙ e);
-    complete = λ v h e. where-marked (safe s w) (2 ^ s .n) v h ∙ e;
+    long = listed-long (markByte (s .n) (safe s w)) (scratchBytes (s .n));
+    sound = λ v e. safe-reaches s w v (marked-passes (s .n) (safe s w) v e .1);
+    complete = λ v h e. marked-here (s .n) (safe s w) v h ∙ e;
   }
 
   -- ---- one mark more, and a path of them
 
-  ready-more : (marks : List ℕ) (v : ℕ) → Ready s w marks → v < 2 ^ s .n → ReachesFrom s w v → Ready s w (set marks v 1)
-  unfolding marked
-  ready-more marks v ready h r = record {
-    long = length-set marks v 1 ∙ ready .long;
-    sound = λ x e. go-sound x e (ℕ-discrete x v);
-    complete = λ x l e. go-complete x l e (ℕ-discrete x v);
-  }
-    where
-      go-sound : (x : ℕ) → marked (set marks v 1) x ≡ true → Dec (x ≡ v) → ReachesFrom s w x
-      go-sound x e (yes q) = subst (ReachesFrom s w) (sym q) r
-      go-sound x e (no nq) = ready .sound x (ap (λ (y : ℕ). eqb y 1) (sym (getD-set-other marks v x 1 0 nq)) ∙ e)
-
-      go-complete : (x : ℕ) → x < 2 ^ s .n → safe s w x ≡ true → Dec (x ≡ v) → marked (set marks v 1) x ≡ true
-      go-complete x l e (yes q) =
-          ap (λ (k : ℕ). eqb (getD (set marks v 1) k 0) 1) q
-          ∙ ap (λ (y : ℕ). eqb y 1) (getD-set-same marks v 1 0 (omega (arith, ready .long)))
-      go-complete x l e (no nq) = ap (λ (y : ℕ). eqb y 1) (getD-set-other marks v x 1 0 nq) ∙ ready .complete x l e
+  ready-more : (marks : List ℕ) (v : ℕ) → Ready s w marks → v < 2 ^ s .n → ReachesFrom s w v → Ready s w (withMark marks v)
+  ready-more marks v ready h r =
+      let there : v / 8 < length marks = omega (arith, ready .long, byte-lt (s .n) v h) in
+      let more : (x : ℕ) → marked (withMark marks v) x ≡ marked marks x || eqb x v = marked-more marks v there in
+      record {
+        long = mark-length marks v ∙ ready .long;
+        sound = λ x e. by-test (marked marks x) (ready .sound x)
+            (λ f. subst (ReachesFrom s w) (sym (eqb-true x v (or-true (marked marks x) (eqb x v) (sym (more x) ∙ e) f))) r);
+        complete = λ x l e. more x ∙ or-left (marked marks x) (eqb x v) (ready .complete x l e);
+      }
 
   -- a vector that is not marked is not safe
   unmarked-unsafe : (marks : List ℕ) → Ready s w marks → (v : ℕ) → v < 2 ^ s .n → marked marks v ≡ false → safe s w v ≡ false
@@ -163,21 +138,49 @@ module _ (s : Set) (ok : wellFormed s ≡ true) (w : ℕ) (t : Table) (et : t �
   pass-is = fun-ext (λ v. ap (λ (x : Table). passIn x v) et ∙ table-pass s w ok v)
 
   -- once the safe vectors are marked, the marks are right, and it is told whether there is a safe vector
-  pub marked-safe : (len : ℕ) (b : Bool) (x : List ℕ) → len ≡ 2 ^ s .n → b ≡ some len (safeIn t) → x ≡ markedWhere len (safeIn t)
-      → (b ≡ hasVector s w) × Ready s w x
+  pub marked-safe : (b : Bool) (x : List ℕ) → b ≡ some (2 ^ s .n) (safeIn t) → x ≡ markedWhere (s .n) (safeIn t) → (b ≡ hasVector s w) × Ready s w x
   unfolding hasVector
-  marked-safe len b x el eb ex = (
-    eb ∙ ap₂ some el safe-is,
-    subst (Ready s w) (sym (ex ∙ ap₂ markedWhere el safe-is)) (ready-safe s ok w),
+  marked-safe b x eb ex = (
+    eb ∙ ap (some (2 ^ s .n)) safe-is,
+    subst (Ready s w) (sym (ex ∙ ap (markedWhere (s .n)) safe-is)) (ready-safe s ok w),
   )
 
-  -- settling a request tells whether its walk never is safe, and leaves the marks right
-  pub settled-request : (marks : List ℕ) → Ready s w marks → (g : ℕ) → g < 2 ^ s .n → (from : ℕ) → from ≡ startFrom (t .holds .f0) (t .holds .f1) g
-      → (b : Bool) (x : List ℕ) → b ≡ comesToMark (passIn t) marks (t .limit) from → x ≡ settled (passIn t) (t .limit) from marks
-      → (b ≡ not (endless s w g)) × Ready s w x
-  settled-request marks ready g fits from ef b x eb ex =
-      let start : from ≡ startVector s w g = ef ∙ ap (λ (y : Table). startFrom (y .holds .f0) (y .holds .f1) g) et ∙ table-start s w ok g in
-      let limit : t .limit ≡ passLimit s w = ap (λ (y : Table). y .limit) et ∙ table-limit s w ok in (
-        eb ∙ (λ i. comesToMark (pass-is i) marks (limit i) (start i)) ∙ comes-endless s ok w marks ready g fits,
-        subst (Ready s w) (sym (ex ∙ (λ i. settled (pass-is i) (limit i) (start i) marks))) (ready-settled s ok w marks ready g fits),
-      )
+  -- ---- the requests, one after the other
+
+  limit-is : t .limit ≡ passLimit s w
+  limit-is = ap (λ (y : Table). y .limit) et ∙ table-limit s w ok
+
+  start-is : (g : ℕ) → startFrom (t .holds .f0) (t .holds .f1) g ≡ startVector s w g
+  start-is g = ap (λ (y : Table). startFrom (y .holds .f0) (y .holds .f1) g) et ∙ table-start s w ok g
+
+  -- settling one leaves the marks right
+  ready-one : (marks : List ℕ) → Ready s w marks → (g : ℕ) → g < 2 ^ s .n
+      → Ready s w (settled (passIn t) (t .limit) (startFrom (t .holds .f0) (t .holds .f1) g) marks)
+  ready-one marks ready g fits =
+      subst (Ready s w) (sym (λ i. settled (pass-is i) (limit-is i) (start-is g i) marks)) (ready-settled s ok w marks ready g fits)
+
+  module _ (marks : List ℕ) (ready : Ready s w marks) where
+    pub ready-upto : (g : ℕ) → g ≤ 2 ^ s .n → Ready s w (settledUpto (passIn t) (t .holds .f0) (t .holds .f1) (t .limit) g marks)
+    unfolding settledUpto
+    ready-upto zero h = ready
+    ready-upto (suc g) h = ready-one _ (ready-upto g (omega arith)) g (omega arith)
+
+    -- a walk that does not come to a mark is one that never is safe
+    stuck-endless : (g : ℕ) → g < 2 ^ s .n → stuckAt (passIn t) (t .holds .f0) (t .holds .f1) (t .limit) marks g ≡ endless s w g
+    unfolding stuckAt
+    stuck-endless g h =
+        let upto = settledUpto (passIn t) (t .holds .f0) (t .holds .f1) (t .limit) g marks in
+        ap not ((λ i. comesToMark (pass-is i) upto (limit-is i) (start-is g i)) ∙ comes-endless s ok w upto (ready-upto g (omega arith)) g h)
+        ∙ twice (endless s w g)
+      where
+        twice : (b : Bool) → not (not b) ≡ b
+        twice true = refl
+        twice false = refl
+
+    -- so the first of them is the first request whose walk never is safe
+    pub first-endless : (requests g : ℕ) → requests ≡ 2 ^ s .n → g ≡ first requests (stuckAt (passIn t) (t .holds .f0) (t .holds .f1) (t .limit) marks)
+        → First (2 ^ s .n) (endless s w) g
+    first-endless requests g er eg =
+        subst (First (2 ^ s .n) (endless s w))
+        (sym (eg ∙ ap (λ (k : ℕ). first k (stuckAt (passIn t) (t .holds .f0) (t .holds .f1) (t .limit) marks)) er ∙ first-cong (2 ^ s .n) _ (endless s w) stuck-endless))
+        (first-spec (2 ^ s .n) (endless s w))

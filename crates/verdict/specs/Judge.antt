@@ -1,7 +1,7 @@
 -- The verdict on a set, every r-bit read word counting as possible: first all words are tried for one at which no vector is safe, then all for one with a
 -- request whose walk never is safe, words and requests in rising order (change request K5).
 -- Assumes nothing.
-use Prim.Native.Nat.{ℕ, _^_}
+use Prim.Native.Nat.{ℕ, _/_, _^_}
 use mathlib.Core.Bool.{Bool, true, false, cond, not}
 use lib.Dec.{ltb}
 use Rattle.words.specs.Loop.{some, first}
@@ -43,9 +43,9 @@ endlessAt s w = let bad = NoEnd w (first (2 ^ s .n) (endless s w)) in cond (ltb 
 unfoldable pub judgeWords : Set → Verdict
 judgeWords s = vectorAt s (first (2 ^ s .r) (lacks s)) (endlessAt s (first (2 ^ s .r) (hasEndless s)))
 
--- the bytes of scratch that a verdict needs: one for each of 2 ^ n vectors
+-- the bytes of scratch that a verdict needs: one bit for each of 2 ^ n vectors, and one byte where n is below 3 (change request K8)
 unfoldable pub scratchBytes : ℕ → ℕ
-scratchBytes n = 2 ^ n
+scratchBytes n = cond (ltb n 3) 1 (2 ^ n / 8)
 
 -- 20, then 21 where the scratch is too short, or the verdict on the words
 unfoldable pub judgeOf : Set → ℕ → Verdict

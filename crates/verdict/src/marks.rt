@@ -1,142 +1,108 @@
-// Marks at one read word: a byte of scratch for each vector, 1 where passes from the vector are known to lead to a safe one.
+// Marks at one read word: a bit of scratch for each vector, bit v % 8 of byte v / 8, set where passes from the vector are known to lead to a safe one.
 use choice::either;
+use choice::least;
 use scan::MOST_CONSTRAINTS;
-use scan::is_safe;
-use scan::pass_over;
+use scan::MOST_OUTPUTS;
+use scan::eight_of;
+use scan::low_held;
+use scan::safe_byte;
 ghost use mathlib.Core.Path.{_≡_};
-ghost use mathlib.Core.Bool.{cond};
-ghost use Prim.Native.Nat.{_≤_, _^_};
-ghost use lib.ListN.{length, set};
-ghost use Rattle.words.specs.Loop.{some};
+ghost use Prim.Native.Nat.{_≤_, _^_, min};
+ghost use lib.ListN.{length};
+ghost use Rattle.words.specs.Loop.{some, listed};
 ghost use Rattle.scan.specs.Set.{mostOutputs};
-ghost use Rattle.scan.specs.way.Table.{safeOver, passOver};
-ghost use Rattle.verdict.specs.way.Marks.{marked, markedWhere, passesToMark, comesToMark, pathMarked, settled};
+ghost use Rattle.scan.specs.way.Table.{safeOver};
+ghost use Rattle.scan.specs.way.Eight.{safeByte};
+ghost use Rattle.verdict.specs.Judge.{scratchBytes};
+ghost use Rattle.verdict.specs.way.Marks.{marked, withMark, markedWhere, firstVectors, hasMark};
 
-const MARK: u8 = 1;
+// The bytes of scratch that a verdict on a set of n outputs needs, one bit for each vector; for more outputs than a set has, those of the most.
+pub fn scratch_bytes(n: usize) -> usize
+    ensures { λ r. ⌜ r ≡ scratchBytes (min n mostOutputs) ⌝ }
+{
+    let outputs = least(n, MOST_OUTPUTS);
+    if outputs < 3 {
+        1
+    } else {
+        (1usize << outputs) / 8
+    }
+}
 
 // Whether vector v is marked; one past the scratch is not.
-fn is_marked(marks: &[u8], v: u16) -> bool
+pub fn is_marked(marks: &[u8], v: u16) -> bool
     ensures { λ r. ⌜ r ≡ marked (now (marks .entry)) v ⌝ }
 {
-    let i = v as usize;
+    let i = (v / 8) as usize;
     if i < marks.len() {
-        marks[i] == MARK
+        words::bit16((v % 8) as usize, marks[i] as u16)
     } else {
         false
     }
 }
 
 // Marks vector v, if the scratch has its byte.
-fn put_mark(marks: &mut [u8], v: u16)
-    ensures { λ _. ⌜ now (marks .exit) ≡ set (now (marks .entry)) v 1 ⌝ }
+pub fn put_mark(marks: &mut [u8], v: u16)
+    ensures { λ _. ⌜ now (marks .exit) ≡ withMark (now (marks .entry)) v ⌝ }
 {
-    let i = v as usize;
+    let i = (v / 8) as usize;
     if i < marks.len() {
-        marks[i] = MARK;
+        marks[i] = marks[i] | (1u8 << (v % 8));
     }
 }
 
-// The mark of a vector that passed the test, or none.
-fn mark_if(test: bool) -> u8
-    ensures { λ r. ⌜ r ≡ cond test 1 0 ⌝ }
+// Of eight vectors those that n outputs have: the first 2^n where n is below 3.
+pub fn first_vectors(n: usize) -> u16
+    ensures { λ r. ⌜ r ≡ firstVectors n ⌝ }
 {
-    if test { MARK } else { 0 }
+    if n < 3 {
+        (1u16 << (1u16 << n)) - 1
+    } else {
+        255
+    }
 }
 
-// Marks the safe vectors and no others; whether there is one.
+// Marks the safe ones of all vectors, eight at once, and no others, by the entries for that; of each eight vectors those of `held` can be safe. Whether there
+// is one.
+fn mark_bytes<'a>(
+    held: u16,
+    f0: u16,
+    f1: u16,
+    plain: &'a [u16; MOST_CONSTRAINTS],
+    named: &'a [u16; MOST_CONSTRAINTS],
+    low: &'a [u16; MOST_CONSTRAINTS],
+    count: usize,
+    marks: &mut [u8],
+) -> bool
+    requires { ⌜ (held ≤ 255) × (length (now marks) ≤ 2 ^ mostOutputs) ⌝ }
+    ensures { λ r. ⌜ r ≡ some (length (now (marks .entry))) (hasMark (safeByte held f0 f1 (now (plain .entry)) (now (named .entry)) (now (low .entry)) count)) ⌝ }
+    ensures { λ r. ⌜ now (marks .exit) ≡ listed (length (now (marks .entry))) (safeByte held f0 f1 (now (plain .entry)) (now (named .entry)) (now (low .entry)) count) ⌝ }
+{
+    let mut any = false;
+    let mut b: usize = 0;
+    while b < marks.len() {
+        let safe = safe_byte(held, f0, f1, plain, named, low, count, b as u16);
+        marks[b] = safe as u8;
+        any = either(any, safe != 0);
+        b = b + 1;
+    }
+    any
+}
+
+// Marks the safe vectors of n outputs and no others; whether there is one.
 pub fn mark_safe<'a>(
     f0: u16,
     f1: u16,
     plain: &'a [u16; MOST_CONSTRAINTS],
     named: &'a [u16; MOST_CONSTRAINTS],
     count: usize,
+    n: usize,
     marks: &mut [u8],
 ) -> bool
-    requires { ⌜ length (now marks) ≤ 2 ^ mostOutputs ⌝ }
-    ensures { λ r. ⌜ r ≡ some (length (now (marks .entry))) (safeOver f0 f1 (now (plain .entry)) (now (named .entry)) count) ⌝ }
-    ensures { λ r. ⌜ now (marks .exit) ≡ markedWhere (length (now (marks .entry))) (safeOver f0 f1 (now (plain .entry)) (now (named .entry)) count) ⌝ }
+    requires { ⌜ (n ≤ mostOutputs) × (length (now marks) ≡ scratchBytes n) ⌝ }
+    ensures { λ r. ⌜ r ≡ some (2 ^ n) (safeOver f0 f1 (now (plain .entry)) (now (named .entry)) count) ⌝ }
+    ensures { λ r. ⌜ now (marks .exit) ≡ markedWhere n (safeOver f0 f1 (now (plain .entry)) (now (named .entry)) count) ⌝ }
 {
-    let mut any = false;
-    let mut v: usize = 0;
-    while v < marks.len() {
-        let safe = is_safe(f0, f1, plain, named, count, v as u16);
-        marks[v] = mark_if(safe);
-        any = either(any, safe);
-        v = v + 1;
-    }
-    any
-}
-
-// The passes from `from` to the first vector that is marked; limit + 1 if none of the vectors after 0 to `limit` passes is.
-fn passes_to_mark<'a>(
-    plain: &'a [u16; MOST_CONSTRAINTS],
-    named: &'a [u16; MOST_CONSTRAINTS],
-    flip: &'a [u16; MOST_CONSTRAINTS],
-    count: usize,
-    from: u16,
-    limit: u16,
-    marks: &[u8],
-) -> u32
-    ensures { λ r. ⌜ r ≡ passesToMark (passOver (now (plain .entry)) (now (named .entry)) (now (flip .entry)) count) (now (marks .entry)) limit from ⌝ }
-{
-    let most = limit as u32;
-    let mut v = from;
-    let mut made: u32 = 0;
-    while !is_marked(marks, v) {
-        if most <= made {
-            return most + 1;
-        }
-        v = pass_over(plain, named, flip, count, v);
-        made = made + 1;
-    }
-    made
-}
-
-// Marks the first `made` vectors of the path from `from`, with no look at the marks, and with one pass less than vectors.
-fn mark_path<'a>(
-    plain: &'a [u16; MOST_CONSTRAINTS],
-    named: &'a [u16; MOST_CONSTRAINTS],
-    flip: &'a [u16; MOST_CONSTRAINTS],
-    count: usize,
-    from: u16,
-    made: u32,
-    marks: &mut [u8],
-)
-    ensures { λ _. ⌜ now (marks .exit) ≡ pathMarked (passOver (now (plain .entry)) (now (named .entry)) (now (flip .entry)) count) made from (now (marks .entry)) ⌝ }
-{
-    if made == 0 {
-        return;
-    }
-    put_mark(marks, from);
-    let mut v = from;
-    let mut done: u32 = 1;
-    while done < made {
-        v = pass_over(plain, named, flip, count, v);
-        put_mark(marks, v);
-        done = done + 1;
-    }
-}
-
-// Whether the walk from `from` comes to a mark within `limit` passes; its path up to there is then marked.
-pub fn settle<'a>(
-    plain: &'a [u16; MOST_CONSTRAINTS],
-    named: &'a [u16; MOST_CONSTRAINTS],
-    flip: &'a [u16; MOST_CONSTRAINTS],
-    count: usize,
-    from: u16,
-    limit: u16,
-    marks: &mut [u8],
-) -> bool
-    ensures { λ r. ⌜ r ≡ comesToMark (passOver (now (plain .entry)) (now (named .entry)) (now (flip .entry)) count) (now (marks .entry)) limit from ⌝ }
-    ensures { λ r. ⌜ now (marks .exit) ≡ settled (passOver (now (plain .entry)) (now (named .entry)) (now (flip .entry)) count) limit from (now (marks .entry)) ⌝ }
-{
-    if is_marked(marks, from) {
-        return true;
-    }
-    let made = passes_to_mark(plain, named, flip, count, from, limit, marks);
-    if (limit as u32) < made {
-        return false;
-    }
-    mark_path(plain, named, flip, count, from, made, marks);
-    true
+    let e = eight_of(plain, named, count);
+    let held = low_held(f0, f1) & first_vectors(n);
+    mark_bytes(held, f0, f1, &e.plain, &e.named, &e.low, count, marks)
 }

@@ -1,15 +1,18 @@
 // The verdict: whether at every read word some vector is safe and every request's walk reaches a safe one.
 use super::marks::mark_safe;
-use super::marks::settle;
+use super::marks::scratch_bytes;
 use super::missing::first_without;
+use super::paths::TRAIL;
+use super::paths::first_stuck;
 use super::seen::PLACES;
 use super::seen::is_seen;
 use super::seen::keep_seen;
 use scan::Set;
-use scan::active_at;
+use scan::active_in;
 use scan::build_by;
 use scan::columns_of;
-use scan::start_vector;
+use scan::high_at;
+use scan::lows_of;
 use shape::well_formed;
 ghost use mathlib.Core.Path.{_≡_};
 ghost use mathlib.Core.Bool.{true};
@@ -46,7 +49,7 @@ fn told_by(words: u32, any: bool, w: u32, g: u16) -> Verdict
     Verdict::NoVector { word: w }
 }
 
-// The first word that fails, and how, with a byte of scratch for each vector: document 01's loops. A word at which the same constraints are active as at a good
+// The first word that fails, and how, with a bit of scratch for each vector: document 01's loops. A word at which the same constraints are active as at a good
 // word before it is good.
 fn first_failing(set: Set, seen: &mut [u64; PLACES], marks: &mut [u8]) -> Verdict
     requires { ⌜ (wellFormed set ≡ true) × (length (now marks) ≡ scratchBytes (set .n)) × Known set (fails set) (now seen) ⌝ }
@@ -56,11 +59,15 @@ fn first_failing(set: Set, seen: &mut [u64; PLACES], marks: &mut [u8]) -> Verdic
     let words = 1u32 << set.r;
     let requests = 1u16 << set.n;
     let by = columns_of(set);
+    let lows = lows_of(&by.read_plain, &by.read_named, set.m);
+    let mut trail = [0u16; TRAIL];
     let mut any = true;
+    let mut high: u64 = 0;
     let mut w: u32 = 0;
     let mut g: u16 = 0;
     'words: while w < words {
-        let active = active_at(&by.read_plain, &by.read_named, set.m, w);
+        high = high_at(&by.read_plain, &by.read_named, set.m, w, high);
+        let active = active_in(&lows.of, high, w);
         if is_seen(seen, active) {
             w = w + 1;
             continue 'words;
@@ -70,17 +77,24 @@ fn first_failing(set: Set, seen: &mut [u64; PLACES], marks: &mut [u8]) -> Verdic
         let f1 = t.holds.f1;
         let limit = t.limit;
         let count = t.count;
-        any = mark_safe(f0, f1, &t.plain, &t.named, count, &mut *marks);
+        any = mark_safe(f0, f1, &t.plain, &t.named, count, set.n, &mut *marks);
         if !any {
             break 'words;
         }
-        g = 0;
-        while g != requests {
-            let from = start_vector(f0, f1, g);
-            if !settle(&t.plain, &t.named, &t.flip, count, from, limit, &mut *marks) {
-                break 'words;
-            }
-            g = g + 1;
+        g = first_stuck(
+            f0,
+            f1,
+            &t.plain,
+            &t.named,
+            &t.flip,
+            count,
+            limit,
+            requests,
+            &mut *marks,
+            &mut trail,
+        );
+        if g < requests {
+            break 'words;
         }
         keep_seen(&mut *seen, active);
         w = w + 1;
@@ -106,7 +120,7 @@ fn revise(set: Set, found: Verdict, seen: &mut [u64; PLACES]) -> Verdict
     }
 }
 
-// The verdict on a set, with scratch of at least `scratchBytes n` bytes, one for each vector: of those the content afterwards is free, later bytes are untouched.
+// The verdict on a set, with scratch of at least `scratchBytes n` bytes, one bit for each vector: of those the content afterwards is free, later bytes are untouched.
 pub fn judge(set: Set, scratch: &mut [u8]) -> Verdict
     ensures { λ r. ⌜ r ≡ judgeOf set (length (now (scratch .entry))) ⌝ }
     ensures { λ r. ⌜ drop (looseBytes set (length (now (scratch .entry)))) (now (scratch .exit)) ≡ drop (looseBytes set (length (now (scratch .entry)))) (now (scratch .entry)) ⌝ }
@@ -114,11 +128,11 @@ pub fn judge(set: Set, scratch: &mut [u8]) -> Verdict
     if !well_formed(set) {
         return Verdict::BadSet;
     }
-    let vectors = 1usize << set.n;
-    if scratch.len() < vectors {
+    let bytes = scratch_bytes(set.n);
+    if scratch.len() < bytes {
         return Verdict::ShortScratch;
     }
     let mut seen = [0u64; PLACES];
-    let found = first_failing(set, &mut seen, &mut scratch[0..vectors]);
+    let found = first_failing(set, &mut seen, &mut scratch[0..bytes]);
     revise(set, found, &mut seen)
 }

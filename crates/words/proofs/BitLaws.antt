@@ -10,7 +10,7 @@ use native.Mathlib.Omega.{arith}
 use lib.Dec.{eqb, eqb·zero-suc, eqb·suc-zero, eqb·suc-suc, lit<}
 use lib.Arith.{digits-mod, lt-one}
 use lib.Pow.{shr-shr, pow-mono, pow-pos, shr-lt}
-use lib.Bits.{and-le-r, or-lt, bitAnd, bitOr, bitXor, differ, and-step, or-step, xor-step, and-shr, or-shr, xor-shr, and-mask}
+use lib.Bits.{and-le-r, or-lt, bitAnd, bitOr, bitXor, differ, and-step, or-step, xor-step, and-shr, or-shr, xor-shr, and-mask, and-mod}
 use borrow.Author.Tests.{eqb-true, eq-eqb, ne-eqb}
 use Rattle.words.proofs.BoolLaws.{clash, and-true, same-truth}
 use Rattle.words.specs.Word.{odd, bit, without, meets}
@@ -224,3 +224,22 @@ meets-rest p n w h = ap (λ (b : Bool). b && eqb (bitAnd w n) 0) (sym (eq-eqb (b
 pub meets-not : (p n w : ℕ) → (bitAnd w p ≡ p → ⊥) → false ≡ meets p n w
 unfolding meets
 meets-not p n w h = ap (λ (b : Bool). b && eqb (bitAnd w n) 0) (sym (ne-eqb (bitAnd w p) p h))
+
+-- ---- a word in two parts: its low three bits, and the others
+
+-- two words are the same where both parts are
+pub same-parts : (x y : ℕ) → eqb x y ≡ (eqb (x / 8) (y / 8) && eqb (x % 8) (y % 8))
+same-parts x y =
+    same-truth (eqb x y) (eqb (x / 8) (y / 8) && eqb (x % 8) (y % 8))
+    (λ e. let h = eqb-true x y e in
+    ap₂ _&&_ (eq-eqb (x / 8) (y / 8) (ap (λ (z : ℕ). z / 8) h)) (eq-eqb (x % 8) (y % 8) (ap (λ (z : ℕ). z % 8) h)))
+    (λ e. let b = and-true (eqb (x / 8) (y / 8)) (eqb (x % 8) (y % 8)) e in
+    let h = eqb-true (x / 8) (y / 8) (b .0) in
+    let l = eqb-true (x % 8) (y % 8) (b .1) in
+    eq-eqb x y (omega (arith, h, l)))
+
+-- a word has what is asked of it where both of its parts have
+pub split-eight : (v n p : ℕ) → eqb (bitAnd v n) p ≡ (eqb (bitAnd (v / 8) (n / 8)) (p / 8) && eqb (bitAnd (v % 8) (n % 8)) (p % 8))
+split-eight v n p =
+    same-parts (bitAnd v n) p
+    ∙ ap₂ (λ (h l : ℕ). eqb h (p / 8) && eqb l (p % 8)) (and-shr v n 3) (and-mod v n 3)

@@ -3,6 +3,7 @@
 
 use super::marks::{sorts, Pairs};
 use super::misses;
+use super::packed;
 use super::skips;
 use super::starts;
 use super::{long, texts};
@@ -13,6 +14,7 @@ use crate::machine::{scan, taken, ScanRefusal, State};
 use crate::raw::{form, well_formed, Form};
 use crate::records::{Case, List, Words};
 use crate::set::Set;
+use crate::verdict::scratch_bytes;
 use std::collections::BTreeMap;
 
 /// How many there are of each sort.
@@ -21,8 +23,8 @@ pub type Counts = BTreeMap<String, usize>;
 /// The most scans behind a state.
 pub const MOST_SCANS: usize = 681;
 
-/// What a corpus must have, and how many at least; `skips`, `misses` and
-/// `starts` have more of it.
+/// What a corpus must have, and how many at least; `skips`, `misses`, `packed`
+/// and `starts` have more of it.
 const NEEDED: &[(&str, usize)] = &[
     ("F cases", 5000),
     ("F ACCEPT", 1000),
@@ -44,6 +46,10 @@ const NEEDED: &[(&str, usize)] = &[
     ("F LOAD 10", 1),
     ("F LOAD 11", 1),
     ("F LOAD 12", 1),
+    ("F SCRATCH 0", 1000),
+    ("F SCRATCH 21", 2000),
+    ("F SCRATCH 22", 500),
+    ("F SCRATCH 23", 200),
     ("F SCANS sent", 20_000),
     ("F SCANS !31", 1000),
     ("F SCANS !32", 1000),
@@ -155,6 +161,7 @@ const NEEDED: &[(&str, usize)] = &[
     ("B JUDGES 21", 100),
     ("B JUDGES 22", 50),
     ("B JUDGES 23", 15),
+    ("B JUDGES that were 21", 450),
     ("B STARTS 0", 100),
     ("B STARTS 21", 100),
     ("B STARTS 22", 50),
@@ -207,6 +214,7 @@ pub fn missing(counts: &Counts) -> Vec<String> {
     let enough = |key: &str, least: usize| counts.get(key).is_some_and(|&count| count >= least);
     needed
         .chain(misses::needed())
+        .chain(packed::needed())
         .chain(starts::needed())
         .filter(|(key, least)| !enough(key, *least))
         .map(|(key, _)| key)
@@ -269,6 +277,7 @@ fn sorts_of_line(line: &str) -> Vec<String> {
             .map(|(operation, item)| format!("SET {operation} {}", answered(item)))
             .collect(),
         "SCANS" | "STATE" => sorts_of_scans(&words),
+        "SCRATCH" => sorts_of_items(words[0], &words[2..]),
         "FIND" | "NAMES" | "WRITES" | "JUDGES" | "STARTS" | "LINES" | "TEXTS" => {
             sorts_of_items(words[0], &words[1..])
         }
@@ -328,6 +337,7 @@ fn sorts_of_case(case: &Case, answer: &str) -> Vec<String> {
             sorts.extend(sorts_from_start(file, scans, answer));
             sorts.extend(load(file).iter().flat_map(skips::sorts));
             sorts.extend(load(file).iter().flat_map(misses::sorts));
+            sorts.extend(load(file).iter().flat_map(packed::sorts));
             sorts.extend(sorts_of_rest(file, answer));
             sorts
         }
@@ -342,9 +352,26 @@ fn sorts_of_case(case: &Case, answer: &str) -> Vec<String> {
             sorts.extend(group(well_formed(set)));
             sorts
         }
-        Case::Buffers { file, .. } => group(load(file).ok()).into_iter().collect(),
+        Case::Buffers { file, sizes } => {
+            let mut sorts = sorts_of_sizes(load(file).ok(), sizes);
+            sorts.extend(group(load(file).ok()));
+            sorts
+        }
         Case::Names { .. } => Vec::new(),
     }
+}
+
+/// The sizes with which a verdict was refused by 21 when it needed a byte for
+/// each vector, and now is not.
+fn sorts_of_sizes(set: Option<Set>, sizes: &[u16]) -> Vec<String> {
+    let now_enough = |n: usize| {
+        let sizes = sizes.iter().map(|&size| usize::from(size));
+        sizes
+            .filter(|size| (scratch_bytes(n)..1 << n).contains(size))
+            .count()
+    };
+    let count = set.map_or(0, |set| now_enough(set.outputs.len()));
+    vec![String::from("JUDGES that were 21"); count]
 }
 
 /// The group of a rejected set.
@@ -497,6 +524,7 @@ mod tests {
         assert_eq!(sorts("STARTS 0:7=2/0 21:3=0/0"), "STARTS 0, STARTS 21");
         assert_eq!(sorts("NAMES R0 O11 !41"), "NAMES R, NAMES O, NAMES !41");
         assert_eq!(sorts("JUDGES 0:7 23/1/2:3"), "JUDGES 0, JUDGES 23");
+        assert_eq!(sorts("SCRATCH 16 0:7 21:3"), "SCRATCH 0, SCRATCH 21");
         assert_eq!(sorts("LINES 0:7 13:9"), "LINES 0, LINES put");
         assert_eq!(
             sorts("SET 0/39:1 22/1 20"),

@@ -5,16 +5,20 @@ pub mod broken;
 pub mod counters;
 pub mod counts;
 pub mod edges;
+pub mod eights;
 pub mod examples;
 pub mod files;
 pub mod long;
+pub mod marking;
 pub mod marks;
 pub mod misses;
 pub mod names;
 pub mod order;
+pub mod packed;
 pub mod paths;
 pub mod rest_files;
 pub mod rests;
+pub mod scratch;
 pub mod sizes;
 pub mod skips;
 pub mod starts;
@@ -48,12 +52,18 @@ pub fn corpus(seed: u64) -> Vec<Case> {
     cases.extend(skipping(seed));
     cases.extend(order::others(&mut part(12)));
     cases.extend(resting(seed));
+    cases.extend(packing(seed));
     cases
 }
 
 /// The part of the sets with a rest word.
 pub fn resting(seed: u64) -> Vec<Case> {
     rests::cases(&mut part(seed, 13))
+}
+
+/// The part of the sets whose vectors have one bit each.
+pub fn packing(seed: u64) -> Vec<Case> {
+    scratch::cases(&mut part(seed, 14))
 }
 
 /// The parts that show what a verdict skips or misses wrongly.

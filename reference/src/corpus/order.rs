@@ -23,7 +23,7 @@ use crate::verdict::{first_endless, has_safe_vector, judge, judge_in_the_old_ord
 const SCANS_EACH: usize = 12;
 
 /// Read literals that are all true where trouble is made.
-type Guard = Vec<Literal>;
+pub type Guard = Vec<Literal>;
 
 /// What a set is to be like.
 #[derive(Default)]
@@ -126,7 +126,7 @@ fn pinned(guard: &[Literal], outputs: &[usize]) -> Vec<Constraint> {
 }
 
 /// Of three outputs each vector is forbidden.
-fn shut_three(guard: &[Literal], outputs: &[usize]) -> Vec<Constraint> {
+pub fn shut_three(guard: &[Literal], outputs: &[usize]) -> Vec<Constraint> {
     let forbidden = |vector: u32| {
         let on = bits(vector, 3);
         let output = |k: usize| (outputs[k], !on[k], k as u8);
@@ -136,7 +136,7 @@ fn shut_three(guard: &[Literal], outputs: &[usize]) -> Vec<Constraint> {
 }
 
 /// The guard that is true at one word.
-fn at(r: usize, word: u32) -> Guard {
+pub fn at(r: usize, word: u32) -> Guard {
     let on = bits(word, r);
     (0..r).map(|k| plain(Point::Read(k), !on[k])).collect()
 }
@@ -214,7 +214,7 @@ fn sets(chance: &mut Chance) -> Vec<Set> {
 }
 
 /// A set that fails at these words, beside a few constraints that are good.
-fn failing(chance: &mut Chance, r: usize, n: usize, no_end: &[u32], no_vector: &[u32]) -> Set {
+pub fn failing(chance: &mut Chance, r: usize, n: usize, no_end: &[u32], no_vector: &[u32]) -> Set {
     beside(chance, r, n, Vec::new(), no_end, no_vector)
 }
 

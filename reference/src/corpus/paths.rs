@@ -29,7 +29,7 @@ pub fn cases(chance: &mut Chance) -> Vec<Case> {
 }
 
 /// Points by chance, and these constraints in any order.
-fn set(chance: &mut Chance, r: usize, n: usize, mut constraints: Vec<Constraint>) -> Set {
+pub fn set(chance: &mut Chance, r: usize, n: usize, mut constraints: Vec<Constraint>) -> Set {
     chance.shuffle(&mut constraints);
     Set {
         constraints,

@@ -43,7 +43,7 @@ pub fn cases(chance: &mut Chance) -> Vec<Case> {
 }
 
 /// One output that rests on, all of them, all but one, or some.
-fn rest(chance: &mut Chance, n: usize) -> Vec<usize> {
+pub fn rest(chance: &mut Chance, n: usize) -> Vec<usize> {
     let one = chance.below(n);
     let is_on = |k: usize, chance: &mut Chance, sort: usize| match sort {
         0 => k == one,

@@ -48,6 +48,7 @@ pub fn sizes(file: &[u8]) -> Vec<u16> {
     if let Ok(set) = load(file) {
         let needed = [
             file.len(),
+            // The scratch when it was a byte for each vector.
             1 << set.outputs.len(),
             line(file).len(),
             text(&set).len(),

@@ -15,9 +15,6 @@ slice-aggregate-read-full c = search needs
 read-full-requires : tie.Need-read-full-requires
 read-full-requires c κs = search needs
 
-buffer-requires-2 : tie.Need-buffer-requires-2
-buffer-requires-2 c κs = search needs
-
 array-share-prefix-file : tie.Need-array-share-prefix-file
 array-share-prefix-file c = search needs
 
@@ -57,7 +54,6 @@ main-spec =
     buffer-requires
     slice-aggregate-read-full
     read-full-requires
-    buffer-requires-2
     array-share-prefix-file
     slice-aggregate-judge-file
     slice-aggregate-judge-file-2

@@ -21,9 +21,13 @@ counted s = min (s .m) mostConstraints
 abbrev pub ofEach : Set → (Constraint → ℕ) → ℕ → ℕ
 ofEach s f i = f (constraint s i)
 
+-- f of the number of each of the first i places, in order; then zeros
+unfoldable pub placesUpto : (ℕ → ℕ) → ℕ → List ℕ
+placesUpto f i = listed i f ++ drop i (replicate mostConstraints 0)
+
 -- what f is of each of the first i constraints, in order; then zeros
 unfoldable pub columnUpto : Set → (Constraint → ℕ) → ℕ → List ℕ
-columnUpto s f i = listed i (ofEach s f) ++ drop i (replicate mostConstraints 0)
+columnUpto s f i = placesUpto (ofEach s f) i
 
 -- of all of them
 abbrev pub column : Set → (Constraint → ℕ) → List ℕ

@@ -1,40 +1,40 @@
--- The code's way to a word's verdict: a byte of scratch for each vector, which is 1 where the vector is marked. A mark says that passes from the
--- vector lead to a safe one. `next` is a pass.
+-- The code's way to a word's verdict: a bit of scratch for each vector, bit v % 8 of byte v / 8, which is set where the vector is marked. A mark says that passes from
+-- the vector lead to a safe one.
 -- Assumes nothing.
-use Prim.Native.Nat.{ℕ, zero, suc, _+_}
-use mathlib.Core.Bool.{Bool, cond, not}
+use Prim.Native.Nat.{ℕ, _+_, _*_, _/_, _%_, _^_}
+use mathlib.Core.Bool.{Bool, cond, not, _&&_}
 use mathlib.Core.List.{List}
 use lib.Dec.{eqb, ltb}
 use lib.ListN.{getD, set}
-use Rattle.words.specs.Loop.{first, listed, iterate}
+use lib.Bits.{bitOr}
+use Rattle.words.specs.Word.{bit, low}
+use Rattle.words.specs.Loop.{word, listed}
+use Rattle.verdict.specs.Judge.{scratchBytes}
 
 -- vector v is marked
 unfoldable pub marked : List ℕ → ℕ → Bool
-marked marks v = eqb (getD marks v 0) 1
+marked marks v = bit (v % 8) (getD marks (v / 8) 0)
 
--- the byte of vector v, marked where the test passes
-abbrev pub markOf : (ℕ → Bool) → ℕ → ℕ
-markOf ok v = cond (ok v) 1 0
+-- the marks with vector v marked too
+unfoldable pub withMark : List ℕ → ℕ → List ℕ
+withMark marks v = set marks (v / 8) (bitOr (getD marks (v / 8) 0) (2 ^ (v % 8)))
 
--- the first n vectors, each marked where the test passes
+-- vector v is one of n outputs, and passes the test
+unfoldable pub within : ℕ → (ℕ → Bool) → ℕ → Bool
+within n ok v = ltb v (2 ^ n) && ok v
+
+-- byte b of the marks of the vectors of n outputs, each marked where the test passes
+unfoldable pub markByte : ℕ → (ℕ → Bool) → ℕ → ℕ
+markByte n ok b = word 8 (λ j. within n ok (8 * b + j))
+
+-- all bytes of these marks
 abbrev pub markedWhere : ℕ → (ℕ → Bool) → List ℕ
-markedWhere n ok = listed n (markOf ok)
+markedWhere n ok = listed (scratchBytes n) (markByte n ok)
 
--- the passes from v to the first vector that is marked; limit + 1 if none of the vectors after 0 to `limit` passes is
-unfoldable pub passesToMark : (ℕ → ℕ) → List ℕ → ℕ → ℕ → ℕ
-passesToMark next marks limit v = first (limit + 1) (λ k. marked marks (iterate next k v))
+-- byte b has a mark
+abbrev pub hasMark : (ℕ → ℕ) → ℕ → Bool
+hasMark byte b = not (eqb (byte b) 0)
 
--- one of these vectors is marked
-unfoldable pub comesToMark : (ℕ → ℕ) → List ℕ → ℕ → ℕ → Bool
-comesToMark next marks limit v = not (ltb limit (passesToMark next marks limit v))
-
--- the first k vectors of the path from v are marked
-unfoldable pub pathMarked : (ℕ → ℕ) → ℕ → ℕ → List ℕ → List ℕ
-pathMarked next zero v marks = marks
-pathMarked next (suc k) v marks = set (pathMarked next k v marks) (iterate next k v) 1
-
--- the marks after a vector's walk: where it comes to a mark, its path up to there is marked
-unfoldable pub settled : (ℕ → ℕ) → ℕ → ℕ → List ℕ → List ℕ
-settled next limit v marks =
-    let more = pathMarked next (passesToMark next marks limit v) v marks in
-    cond (comesToMark next marks limit v) more marks
+-- of eight vectors those that n outputs have: the first 2 ^ n where n is below 3
+unfoldable pub firstVectors : ℕ → ℕ
+firstVectors n = cond (ltb n 3) (low (2 ^ n)) 255

@@ -1,33 +1,19 @@
 -- `scan::columns::columns_of` meets its contract. The invariant: each list has the literals of the constraints passed, and then zeros. Assumes nothing.
-use mathlib.Core.Path.{_≡_, refl, sym, ap, subst, _∙_}
-use mathlib.Core.List.{List, _++_}
-use Prim.Native.Nat.{ℕ, _+_, _≤_, _<_, _-_}
+use mathlib.Core.Path.{_≡_, refl}
+use mathlib.Core.List.{List}
+use Prim.Native.Nat.{ℕ, _≤_, _-_}
 use native.Mathlib.Omega.{arith}
-use lib.ListN.{set, replicate, length-replicate}
 use Rattle.words.specs.Loop.{word}
-use Rattle.words.proofs.LoopLaws.{listed-none, listed-store}
 use Rattle.words.proofs.LoopTurns.{word-none, word-turn}
 use Rattle.scan.specs.declared.set.Constraint.{Constraint}
 use Rattle.scan.specs.declared.set.Set.{Set}
 use Rattle.scan.specs.declared.columns.Columns.{Columns}
-use Rattle.scan.specs.Set.{mostConstraints, constraint}
+use Rattle.scan.specs.Set.{constraint}
 use Rattle.scan.specs.way.Columns.{counted, ofEach, columnUpto, readsNamed, simpleAt, columnsOf}
+use Rattle.scan.proofs.PlacesLaws.{places-none, places-more}
 use borrow.Author.Needs.{needs}
 use Rattle.scan.proofs.columns.columns_of.Statement.{statement}
 use Rattle.scan.proofs.columns.columns_of.Tie as tie
-
-module _ (s : Set) (f : Constraint → ℕ) where
-  -- no constraint is passed
-  none : replicate mostConstraints 0 ≡ columnUpto s f 0
-  unfolding columnUpto
-  none = ap (λ (l : List ℕ). l ++ replicate mostConstraints 0) (listed-none (ofEach s f))
-
-  -- one more is stored
-  more : (i x : ℕ) (l : List ℕ) → i < mostConstraints → l ≡ columnUpto s f i → x ≡ f (constraint s i) → set l i x ≡ columnUpto s f (i + 1)
-  unfolding columnUpto
-  more i x l h el ex =
-      ap (λ (k : List ℕ). set k i x) el
-      ∙ listed-store (ofEach s f) 0 i x (replicate mostConstraints 0) (subst (λ (n : ℕ). i < n) (sym (length-replicate {A = ℕ} mostConstraints 0)) h) ex
 
 -- all constraints are passed
 done : (s : Set) (i : ℕ) (rp rn op on : List ℕ) (simple : ℕ) → i ≡ counted s
@@ -50,9 +36,9 @@ least-requires : tie.Need-least-requires Inv-loop μ-loop
 least-requires c κs = search needs
 
 loop-holds : tie.Need-loop-holds Inv-loop μ-loop
+unfolding columnUpto
 loop-holds c =
-    let s = c .before .args .t1 in
-    (omega arith, none s _, none s _, none s _, none s _, word-none _)
+    (omega arith, places-none _, places-none _, places-none _, places-none _, word-none _)
 
 mul-c : tie.Need-mul-c Inv-loop μ-loop
 mul-c c = search needs
@@ -100,16 +86,16 @@ loop-less : tie.Need-loop-less Inv-loop μ-loop
 loop-less c = search needs
 
 loop-again : tie.Need-loop-again Inv-loop μ-loop
-unfolding simpleAt constraint
+unfolding columnUpto simpleAt constraint
 loop-again c =
     let q = c .before in
     let l = q .before .before .before .before .loop in
     let s = q .before .before .before .before .before .before .args .t1 in (
       omega arith,
-      more s (λ c. c .«read_plain») (l .i) _ (l .read-plain) (omega arith) (l .inv .1) refl,
-      more s readsNamed (l .i) _ (l .read-named) (omega arith) (l .inv .2) refl,
-      more s (λ c. c .«out_plain») (l .i) _ (l .out-plain) (omega arith) (l .inv .3) refl,
-      more s (λ c. c .«out_negated») (l .i) _ (l .out-negated) (omega arith) (l .inv .4) refl,
+      places-more (ofEach s (λ c. c .«read_plain»)) (l .i) _ (l .read-plain) (omega arith) (l .inv .1) refl,
+      places-more (ofEach s readsNamed) (l .i) _ (l .read-named) (omega arith) (l .inv .2) refl,
+      places-more (ofEach s (λ c. c .«out_plain»)) (l .i) _ (l .out-plain) (omega arith) (l .inv .3) refl,
+      places-more (ofEach s (λ c. c .«out_negated»)) (l .i) _ (l .out-negated) (omega arith) (l .inv .4) refl,
       word-turn (simpleAt s) 64 (l .i) (l .simple) (c .keep64 .result) (q .is-simple .result) (omega arith) (l .inv .5) (q .is-simple .ensures)
           (c .keep64 .ensures),
     )

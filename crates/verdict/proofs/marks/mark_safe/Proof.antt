@@ -1,102 +1,71 @@
--- `verdict::marks::mark_safe` meets its contract. The invariant: the bytes passed are marked where their vectors are safe, and `any` tells whether one is.
--- Assumes nothing.
-use mathlib.Core.Path.{_≡_, refl, sym, ap, _∙_}
-use mathlib.Core.Bool.{Bool, cond}
-use mathlib.Core.List.{List, _++_, append-nil}
-use Prim.Native.Nat.{ℕ, _≤_, _-_}
+-- `verdict::marks::mark_safe` meets its contract. Assumes nothing.
+use mathlib.Core.Path.{_≡_, ap, ap₂, _∙_}
+use Prim.Native.Nat.{ℕ}
 use native.Mathlib.Omega.{arith}
-use lib.ListN.{length, set, drop, length-set}
-use lib.Seq.{drop-length}
-use Rattle.words.specs.Loop.{some}
-use Rattle.words.proofs.LoopLaws.{listed-none, listed-store}
-use Rattle.words.proofs.LoopTurns.{some-none, some-step}
-use Rattle.scan.specs.way.Table.{safeOver}
-use Rattle.verdict.specs.way.Marks.{markOf, markedWhere}
+use lib.ListN.{length}
+use lib.Bits.{bitAnd}
+use Rattle.words.specs.Loop.{some, listed}
+use Rattle.scan.specs.Set.{mostOutputs}
+use Rattle.scan.specs.way.Eight.{lowHeld, eightOf, safeByte}
+use Rattle.verdict.specs.way.Marks.{firstVectors, hasMark}
+use Rattle.verdict.proofs.JudgeLaws.{scratch-eighth, scratch-mono}
+use Rattle.verdict.proofs.MarksLaws.{bytes-are, some-safe, held-le}
 use borrow.Author.Needs.{needs}
 use Rattle.verdict.proofs.marks.mark_safe.Statement.{statement}
 use Rattle.verdict.proofs.marks.mark_safe.Tie as tie
 
-abbrev Inv-loop : tie.InvT-loop
-Inv-loop f0 f1 plain named count marks₀ any₀ v₀ marks any v =
-    (v ≤ length marks₀) × (length marks ≡ length marks₀) × (any ≡ some v (safeOver f0 f1 plain named count))
-    × (marks ≡ markedWhere v (safeOver f0 f1 plain named count) ++ drop v marks₀)
+eight-of-requires : tie.Need-eight-of-requires
+eight-of-requires c κs = search needs
 
-abbrev μ-loop : tie.MeasureT-loop
-μ-loop f0 f1 plain named count marks₀ any₀ v₀ marks any v = length marks₀ - v
+low-held-requires : tie.Need-low-held-requires
+low-held-requires c κs = search needs
 
--- the safety of a call
-module _ (c : tie.Start Inv-loop μ-loop) where
-  abbrev ok : ℕ → Bool
-  ok = safeOver (c .args .f0) (c .args .f1) (c .args .plain .now) (c .args .named .now) (c .args .count)
+first-vectors-requires : tie.Need-first-vectors-requires
+first-vectors-requires c κs = search needs
 
-loop-holds : tie.Need-loop-holds Inv-loop μ-loop
-loop-holds c =
-    let s = c .before in
-    (omega arith, refl, sym (some-none _), ap (λ (l : List ℕ). l ++ s .args .marks .now) (listed-none (markOf (ok s))))
+-- the arguments of a call; the entries for judging eight at once, and what is held of eight vectors: of those that there are
+module _ (v : tie.After-first-vectors) where
+  abbrev start : tie.Start
+  start = v .before .before .before .before
 
-cast-is-safe : tie.Need-cast-is-safe Inv-loop μ-loop
-cast-is-safe c = search needs
+  abbrev held : ℕ
+  held = bitAnd (v .before .low-held .result) (v .first-vectors .result)
 
-is-safe-requires : tie.Need-is-safe-requires Inv-loop μ-loop
-is-safe-requires c κs = search needs
+  eight-told : v .before .before .eight-of .result ≡ eightOf (start .args .plain .now) (start .args .named .now) (start .args .count)
+  eight-told = v .before .before .eight-of .ensures
 
-mark-if-requires : tie.Need-mark-if-requires Inv-loop μ-loop
-mark-if-requires c κs = search needs
+  held-told : held ≡ bitAnd (lowHeld (start .args .f0) (start .args .f1)) (firstVectors (start .args .n))
+  held-told = ap₂ bitAnd (v .before .low-held .ensures) (v .first-vectors .ensures)
 
-slice-write-marks : tie.Need-slice-write-marks Inv-loop μ-loop
-slice-write-marks c = search needs
+  abbrev byte : ℕ → ℕ
+  byte =
+      safeByte held (start .args .f0) (start .args .f1) (v .before .before .eight-of .result .plain) (v .before .before .eight-of .result .named)
+      (v .before .before .eight-of .result .low) (start .args .count)
 
-either-requires : tie.Need-either-requires Inv-loop μ-loop
-either-requires c κs = search needs
-
-add-v : tie.Need-add-v Inv-loop μ-loop
-add-v c = search needs
-
-loop-less : tie.Need-loop-less Inv-loop μ-loop
-loop-less c = search needs
-
-loop-again : tie.Need-loop-again Inv-loop μ-loop
-loop-again c =
-    let m = c .before in
-    let q = m .before in
-    let l = q .before .before in
-    let s = l .before .before in (
-      omega arith,
-      length-set (l .loop .marks) (l .loop .v) _ ∙ l .loop .inv .1,
-      some-step (ok s) (l .loop .v) (l .loop .any) (q .is-safe .result) (c .either .result) (l .loop .inv .2) (q .is-safe .ensures) (c .either .ensures),
-      ap (λ (k : List ℕ). set k (l .loop .v) (m .mark-if .result)) (l .loop .inv .3)
-          ∙ listed-store (markOf (ok s)) 0 (l .loop .v) (m .mark-if .result) (s .args .marks .now) (omega arith)
-          (m .mark-if .ensures ∙ ap (λ (b : Bool). cond b 1 0) (q .is-safe .ensures)),
+mark-bytes-requires : tie.Need-mark-bytes-requires
+mark-bytes-requires c κs =
+    let v = c .before .before .before .before .before in
+    let s = start v in (
+      omega (arith, held-told v, held-le (s .args .f0) (s .args .f1) (s .args .n)),
+      omega (arith, s .pre .1, scratch-mono (s .args .n) mostOutputs (s .pre .0), scratch-eighth mostOutputs (omega arith)),
     )
 
-same-length : tie.Need-same-length Inv-loop μ-loop
-same-length c = c .before .loop .inv .1
+same-length : tie.Need-same-length
+same-length c = search needs
 
-returns : tie.Need-returns Inv-loop μ-loop
+returns : tie.Need-returns
 returns c =
-    let l = c .before in
-    let s = l .before .before in
-    let e : l .loop .v ≡ length (s .args .marks .now) = omega arith in (
-      l .loop .inv .2 ∙ ap (λ (n : ℕ). some n (ok s)) e,
-      l .loop .inv .3 ∙ ap (λ (n : ℕ). markedWhere n (ok s) ++ drop n (s .args .marks .now)) e
-          ∙ ap (λ (r : List ℕ). markedWhere (length (s .args .marks .now)) (ok s) ++ r) (drop-length (s .args .marks .now))
-          ∙ append-nil _,
+    let m = c .before .before in
+    let v = m .before .before .before .before .before .before in
+    let s = start v in
+    let any : m .mark-bytes .result ≡ some (length (s .args .marks .now)) (hasMark (byte v)) = m .mark-bytes .ensures .0 in (
+      any ∙ ap (λ (k : ℕ). some k (hasMark (byte v))) (s .pre .1)
+          ∙ some-safe (s .args .n) (s .args .plain .now) (s .args .named .now) (s .args .count) _ (eight-told v) (s .args .f0) (s .args .f1) (held v) (held-told v),
+      m .mark-bytes .ensures .1 ∙ ap (λ (k : ℕ). listed k (byte v)) (s .pre .1)
+          ∙ bytes-are (s .args .n) (s .args .plain .now) (s .args .named .now) (s .args .count) _ (eight-told v) (s .args .f0) (s .args .f1) (held v) (held-told v),
     )
 
 pub mark-safe-spec : {M : Type 1} → statement M
 mark-safe-spec =
     tie.close
-    (tie.spec
-    Inv-loop
-    μ-loop
-    loop-holds
-    cast-is-safe
-    is-safe-requires
-    mark-if-requires
-    slice-write-marks
-    either-requires
-    add-v
-    loop-less
-    loop-again
-    same-length
-    returns)
+    (tie.spec eight-of-requires low-held-requires first-vectors-requires mark-bytes-requires same-length returns)

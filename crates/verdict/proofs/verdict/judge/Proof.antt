@@ -1,25 +1,22 @@
 -- `verdict::verdict::judge` meets its contract. Assumes nothing.
-use mathlib.Core.Path.{_≡_, refl, sym, _∙_}
+use mathlib.Core.Path.{_≡_, refl, sym, ap, _∙_}
 use mathlib.Core.Bool.{true}
-use Prim.Native.Nat.{ℕ, _-_, _*_, _%_, _^_, _≤_}
-use native.Mathlib.Nat.{sub-zero}
+use Prim.Native.Nat.{ℕ, _-_, _≤_, min}
+use native.Mathlib.Nat.{sub-zero, min-eq-left}
 use native.Mathlib.Omega.{arith}
 use lib.ListN.{length}
 use lib.Seq.{length-take-le}
 use borrow.Author.Tests.{not-true, not-false}
-use Rattle.words.proofs.ShiftLaws.{one-shl}
+use Rattle.scan.specs.declared.set.Set.{Set}
+use Rattle.scan.specs.Set.{mostOutputs}
 use Rattle.scan.specs.Shape.{wellFormed}
 use Rattle.scan.proofs.ShapeLaws.{counts}
 use Rattle.verdict.specs.Judge.{scratchBytes}
-use Rattle.verdict.proofs.JudgeLaws.{scratch-is, bad-set, short-scratch, judged, later-kept}
+use Rattle.verdict.proofs.JudgeLaws.{bad-set, short-scratch, judged, later-kept}
 use Rattle.verdict.proofs.SeenLaws.{known-none, known-vectors}
 use borrow.Author.Needs.{needs}
 use Rattle.verdict.proofs.verdict.judge.Statement.{statement}
 use Rattle.verdict.proofs.verdict.judge.Tie as tie
-
--- past the first test the set is well formed, and 2 ^ n is counted
-formed : (c : tie.Else1) → wellFormed (c .before .before .before .args .set) ≡ true
-formed c = sym (c .before .well-formed .ensures) ∙ not-false _ (c .if1 .left)
 
 well-formed-requires : tie.Need-well-formed-requires
 well-formed-requires c κs = search needs
@@ -29,24 +26,36 @@ returns c =
     let a = c .before .before .before .args in
     (bad-set (a .set) (length (a .scratch .now)) (sym (c .before .well-formed .ensures) ∙ not-true _ (c .if1 .taken)), refl)
 
-shl-vectors : tie.Need-shl-vectors
-shl-vectors c = omega (arith, counts _ (formed (c .before)) .n-le)
+scratch-bytes-requires : tie.Need-scratch-bytes-requires
+scratch-bytes-requires c κs = search needs
 
--- the bytes that are lent: `1 << n`, which is 2 ^ n
-abbrev shifted : ℕ → ℕ
-shifted n = (1 * 2 ^ n) % 2 ^ 64
+-- past the first test the set is well formed, and the bytes of scratch are counted
+module _ (b : tie.After-scratch-bytes) where
+  abbrev start : tie.Start
+  start = b .before .before .before .before
 
-vectors-is : (c : tie.Else1) → shifted (c .before .before .before .args .set .n) ≡ scratchBytes (c .before .before .before .args .set .n)
-vectors-is c = one-shl 64 _ (omega (arith, counts _ (formed c) .n-le)) ∙ sym (scratch-is _)
+  abbrev set : Set
+  set = start .args .set
 
-part-is : (c : tie.Else1) → shifted (c .before .before .before .args .set .n) - 0 ≡ scratchBytes (c .before .before .before .args .set .n)
-part-is c = sub-zero (shifted (c .before .before .before .args .set .n)) ∙ vectors-is c
+  formed : wellFormed set ≡ true
+  formed = sym (b .before .before .well-formed .ensures) ∙ not-false _ (b .before .if1 .left)
+
+  abbrev bytes : ℕ
+  bytes = b .scratch-bytes .result
+
+  bytes-told : bytes ≡ scratchBytes (set .n)
+  bytes-told =
+      let told : bytes ≡ scratchBytes (min (set .n) mostOutputs) = b .scratch-bytes .ensures in
+      told ∙ ap scratchBytes (min-eq-left (counts set formed .n-le))
+
+  part-is : bytes - 0 ≡ scratchBytes (set .n)
+  part-is = sub-zero bytes ∙ bytes-told
 
 returns-2 : tie.Need-returns-2
 returns-2 c =
-    let e = c .before .before in
-    let a = e .before .before .before .args in
-    (short-scratch (a .set) (length (a .scratch .now)) (formed e) (omega (arith, vectors-is e, c .if2 .taken)), refl)
+    let b = c .before in
+    let a = start b .args in
+    (short-scratch (a .set) (length (a .scratch .now)) (formed b) (omega (arith, bytes-told b, c .if2 .taken)), refl)
 
 sub-first-failing : tie.Need-sub-first-failing
 sub-first-failing c = search needs
@@ -60,17 +69,16 @@ part-first-failing-end c = search needs
 first-failing-requires : tie.Need-first-failing-requires
 first-failing-requires c κs =
     let f = c .before .before in
-    let e = f .before .before in
-    let a = e .before .before .before .args in
-    let room : shifted (a .set .n) - 0 ≤ length (a .scratch .now) = omega (arith, f .if2 .left) in
-    (formed e, length-take-le (shifted (a .set .n) - 0) (a .scratch .now) room ∙ part-is e, known-none (a .set) (formed e))
+    let b = f .before in
+    let a = start b .args in
+    let room : bytes b - 0 ≤ length (a .scratch .now) = omega (arith, f .if2 .left) in
+    (formed b, length-take-le (bytes b - 0) (a .scratch .now) room ∙ part-is b, known-none (a .set) (formed b))
 
 revise-requires : tie.Need-revise-requires
 revise-requires c κs =
     let j = c .before .before .before in
-    let e = j .before .before .before .before .before in
-    let a = e .before .before .before .args in
-    (formed e, j .first-failing .ensures .0, known-vectors (a .set) _ (j .first-failing .ensures .1))
+    let b = j .before .before .before .before in
+    (formed b, j .first-failing .ensures .0, known-vectors (set b) _ (j .first-failing .ensures .1))
 
 same-length : tie.Need-same-length
 same-length c = search needs
@@ -79,12 +87,12 @@ returns-3 : tie.Need-returns-3
 returns-3 c =
     let j = c .before .before .before .before in
     let f = j .before .before .before in
-    let e = f .before .before in
-    let a = e .before .before .before .args in
-    let room : scratchBytes (a .set .n) ≤ length (a .scratch .now) = omega (arith, vectors-is e, f .if2 .left) in (
-      c .revise .ensures ∙ judged (a .set) (length (a .scratch .now)) (formed e) room,
-      later-kept (a .set) (length (a .scratch .now)) (formed e) room (shifted (a .set .n) - 0) (part-is e) (j .first-failing .last .1 .1 .0) (a .scratch .now)
-          (j .first-failing .kept .1 .1 .0 ∙ length-take-le (shifted (a .set .n) - 0) (a .scratch .now) (omega (arith, f .if2 .left))),
+    let b = f .before in
+    let a = start b .args in
+    let room : scratchBytes (a .set .n) ≤ length (a .scratch .now) = omega (arith, bytes-told b, f .if2 .left) in (
+      c .revise .ensures ∙ judged (a .set) (length (a .scratch .now)) (formed b) room,
+      later-kept (a .set) (length (a .scratch .now)) (formed b) room (bytes b - 0) (part-is b) (j .first-failing .last .1 .1 .0) (a .scratch .now)
+          (j .first-failing .kept .1 .1 .0 ∙ length-take-le (bytes b - 0) (a .scratch .now) (omega (arith, f .if2 .left))),
     )
 
 pub judge-spec : {M : Type 1} → statement M
@@ -93,7 +101,7 @@ judge-spec =
     (tie.spec
     well-formed-requires
     returns
-    shl-vectors
+    scratch-bytes-requires
     returns-2
     sub-first-failing
     part-first-failing-start
