@@ -73,26 +73,11 @@ fn first_failing(set: Set, seen: &mut [u64; PLACES], marks: &mut [u8]) -> Verdic
             continue 'words;
         }
         let t = build_by(set, &by.out_plain, &by.out_negated, by.simple, active);
-        let f0 = t.holds.f0;
-        let f1 = t.holds.f1;
-        let limit = t.limit;
-        let count = t.count;
-        any = mark_safe(f0, f1, &t.plain, &t.named, count, set.n, &mut *marks);
+        any = mark_safe(t, set.n, &mut *marks);
         if !any {
             break 'words;
         }
-        g = first_stuck(
-            f0,
-            f1,
-            &t.plain,
-            &t.named,
-            &t.flip,
-            count,
-            limit,
-            requests,
-            &mut *marks,
-            &mut trail,
-        );
+        g = first_stuck(t, requests, &mut *marks, &mut trail);
         if g < requests {
             break 'words;
         }

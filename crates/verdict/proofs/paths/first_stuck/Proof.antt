@@ -7,7 +7,7 @@ use native.Mathlib.Omega.{arith}
 use lib.ListN.{length}
 use Rattle.words.proofs.LoopTurns.{Missed, missed-none, missed-one, missed-here, missed-all}
 use Rattle.scan.specs.Holds.{startFrom}
-use Rattle.scan.specs.way.Table.{passOver}
+use Rattle.scan.specs.way.Table.{passIn}
 use Rattle.verdict.specs.way.Paths.{comesToMark, settled, trailPlaces, settledUpto, stuckAt}
 use Rattle.verdict.proofs.PathsLaws.{settled-none, settled-more}
 use borrow.Author.Needs.{needs}
@@ -15,12 +15,12 @@ use Rattle.verdict.proofs.paths.first_stuck.Statement.{statement}
 use Rattle.verdict.proofs.paths.first_stuck.Tie as tie
 
 abbrev Inv-loop : tie.InvT-loop
-Inv-loop f0 f1 plain named flip count limit requests marks₀ trail₀ g₀ marks trail g =
-    Missed requests (stuckAt (passOver plain named flip count) f0 f1 limit marks₀) g
-    × (marks ≡ settledUpto (passOver plain named flip count) f0 f1 limit g marks₀) × (length marks ≡ length marks₀) × (length trail ≡ trailPlaces)
+Inv-loop requests marks₀ trail₀ t f0 f1 limit count g₀ marks trail g =
+    Missed requests (stuckAt (passIn t) (t .holds .f0) (t .holds .f1) (t .limit) marks₀) g
+    × (marks ≡ settledUpto (passIn t) (t .holds .f0) (t .holds .f1) (t .limit) g marks₀) × (length marks ≡ length marks₀) × (length trail ≡ trailPlaces)
 
 abbrev μ-loop : tie.MeasureT-loop
-μ-loop f0 f1 plain named flip count limit requests marks₀ trail₀ g₀ marks trail g = requests - g
+μ-loop requests marks₀ trail₀ t f0 f1 limit count g₀ marks trail g = requests - g
 
 -- whether the walk of request g is stuck, at the marks of the walks before
 stuck-is : (next : ℕ → ℕ) (f0 f1 limit g from : ℕ) (marks l : List ℕ) (b : Bool) → l ≡ settledUpto next f0 f1 limit g marks → from ≡ startFrom f0 f1 g
@@ -28,30 +28,39 @@ stuck-is : (next : ℕ → ℕ) (f0 f1 limit g from : ℕ) (marks l : List ℕ) 
 unfolding stuckAt
 stuck-is next f0 f1 limit g from marks l b el ef eb = ap not (eb ∙ ap₂ (λ (x : List ℕ) (v : ℕ). comesToMark next x limit v) el ef)
 
--- the pass of a call, and which of its requests are stuck
+-- the table of a call: its pass, its holds and its limit, and which requests are stuck
 module _ (c : tie.Start Inv-loop μ-loop) where
   abbrev next : ℕ → ℕ
-  next = passOver (c .args .plain .now) (c .args .named .now) (c .args .flip .now) (c .args .count)
+  next = passIn (c .args .t1)
+
+  abbrev f0 : ℕ
+  f0 = c .args .t1 .holds .f0
+
+  abbrev f1 : ℕ
+  f1 = c .args .t1 .holds .f1
+
+  abbrev limit : ℕ
+  limit = c .args .t1 .limit
 
   abbrev stuck : ℕ → Bool
-  stuck = stuckAt next (c .args .f0) (c .args .f1) (c .args .limit) (c .args .marks .now)
+  stuck = stuckAt next f0 f1 limit (c .args .marks .now)
 
 loop-holds : tie.Need-loop-holds Inv-loop μ-loop
 loop-holds c =
     let s = c .before in
     let a = s .args in
-    (missed-none (a .requests) (stuck s), settled-none (next s) (a .f0) (a .f1) (a .limit) (a .marks .now), refl, s .pre)
+    (missed-none (a .requests) (stuck s), settled-none (next s) (f0 s) (f1 s) (limit s) (a .marks .now), refl, s .pre)
 
 start-vector-requires : tie.Need-start-vector-requires Inv-loop μ-loop
 start-vector-requires c κs = search needs
 
 settle-requires : tie.Need-settle-requires Inv-loop μ-loop
-settle-requires c κs = c .before .before .before .before .loop .inv .3
+settle-requires c κs = c .before .before .before .before .before .before .before .before .loop .inv .3
 
 -- what was learnt of a request's walk
 module _ (e : tie.After-settle Inv-loop μ-loop) where
   abbrev at-start : tie.After-start-vector Inv-loop μ-loop
-  at-start = e .before .before .before
+  at-start = e .before .before .before .before .before .before .before
 
   abbrev in-turn : tie.At-loop Inv-loop μ-loop
   in-turn = at-start .before .before
@@ -65,21 +74,21 @@ module _ (e : tie.After-settle Inv-loop μ-loop) where
   abbrev from : ℕ
   from = at-start .start-vector .result
 
-  from-is : from ≡ startFrom (call .args .f0) (call .args .f1) (in-turn .loop .g)
+  from-is : from ≡ startFrom (f0 call) (f1 call) (in-turn .loop .g)
   from-is = at-start .start-vector .ensures
 
-  told : e .settle .result ≡ comesToMark (next call) (in-turn .loop .marks) (call .args .limit) from
+  told : e .settle .result ≡ comesToMark (next call) (in-turn .loop .marks) (limit call) from
   told = e .settle .ensures .0
 
   stuck-here : not (e .settle .result) ≡ stuck call (in-turn .loop .g)
   stuck-here =
-      stuck-is (next call) (call .args .f0) (call .args .f1) (call .args .limit) (in-turn .loop .g) from (call .args .marks .now) (in-turn .loop .marks)
+      stuck-is (next call) (f0 call) (f1 call) (limit call) (in-turn .loop .g) from (call .args .marks .now) (in-turn .loop .marks)
       (e .settle .result) (in-turn .loop .inv .1) from-is told
 
   abbrev marks-left : List ℕ
   marks-left = e .settle .last .1 .1 .1 .1 .1 .1 .0
 
-  marks-are : marks-left ≡ settled (next call) (call .args .limit) from (in-turn .loop .marks)
+  marks-are : marks-left ≡ settled (next call) (limit call) from (in-turn .loop .marks)
   marks-are = e .settle .ensures .1 .0
 
   abbrev trail-left : List ℕ
@@ -111,7 +120,7 @@ loop-again c =
     let s = call e in
     let a = s .args in (
       missed-one (a .requests) (stuck s) (l .loop .g) (l .loop .inv .0) (below e) (sym (stuck-here e) ∙ c .if1 .left),
-      settled-more (next s) (a .f0) (a .f1) (a .limit) (a .marks .now) (l .loop .g) (from e) (l .loop .marks) _ (l .loop .inv .1) (from-is e) (marks-are e),
+      settled-more (next s) (f0 s) (f1 s) (limit s) (a .marks .now) (l .loop .g) (from e) (l .loop .marks) _ (l .loop .inv .1) (from-is e) (marks-are e),
       e .settle .kept .1 .1 .1 .1 .1 .1 .0 ∙ l .loop .inv .2,
       trail-is e,
     )

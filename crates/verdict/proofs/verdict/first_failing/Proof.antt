@@ -194,7 +194,7 @@ build-by-requires c κs = search needs
 -- the word at which the safe vectors were marked, its table and its marks
 module _ (m : tie.After-mark-safe Inv-words μ-words) where
   abbrev built : tie.After-build-by Inv-words μ-words
-  built = m .before .before .before .before .before
+  built = m .before .before
 
   abbrev looked : tie.After-active-in Inv-words μ-words
   looked = built .before .before .before .before .before .before .before
@@ -206,7 +206,7 @@ module _ (m : tie.After-mark-safe Inv-words μ-words) where
   built-told = table-told word (looked .active-in .result) (active-told looked) (built .build-by .result) (built .build-by .ensures)
 
   abbrev marks : List ℕ
-  marks = m .mark-safe .last .1 .1 .1 .1 .1 .1 .0
+  marks = m .mark-safe .last .1 .1 .0
 
   -- what marking them tells of the word, and that the marks are right
   marked-told : (m .mark-safe .result ≡ hasVector (set word) (word .words .w)) × Ready (set word) (word .words .w) marks
@@ -216,17 +216,17 @@ module _ (m : tie.After-mark-safe Inv-words μ-words) where
 
 mark-safe-requires : tie.Need-mark-safe-requires Inv-words μ-words
 mark-safe-requires c κs =
-    let o = at (c .before .before .before .before .before .before .before .before .before .before .before) in
+    let o = at (c .before .before .before .before .before .before .before .before) in
     (few (start o) .1, o .words .inv .3)
 
 first-stuck-requires : tie.Need-first-stuck-requires Inv-words μ-words
 first-stuck-requires c κs =
-    word (c .before .before .before .before .before .before .before .before .before) .words .inv .4
+    word (c .before .before .before .before .before) .words .inv .4
 
 -- the word whose requests were gone over
 module _ (f : tie.After-first-stuck Inv-words μ-words) where
   abbrev safes : tie.After-mark-safe Inv-words μ-words
-  safes = f .before .before .before .before .before .before .before .before .before .before
+  safes = f .before .before .before .before .before .before
 
   -- what is answered is its first request whose walk is endless
   stuck-told : First (2 ^ set (word safes) .n) (endless (set (word safes)) (word safes .words .w)) (f .first-stuck .result)
@@ -235,8 +235,8 @@ module _ (f : tie.After-first-stuck Inv-words μ-words) where
       (marks safes) (marked-told safes .1) _ (f .first-stuck .result) (word safes .words .inv .1) (f .first-stuck .ensures .0)
 
   -- and the marks stay as many
-  marks-long : length (f .first-stuck .last .1 .1 .1 .1 .1 .1 .1 .1 .0) ≡ scratchBytes (set (word safes) .n)
-  marks-long = f .first-stuck .kept .1 .1 .1 .1 .1 .1 .1 .1 .0 ∙ marked-told safes .1 .long
+  marks-long : length (f .first-stuck .last .1 .1 .0) ≡ scratchBytes (set (word safes) .n)
+  marks-long = f .first-stuck .kept .1 .1 .0 ∙ marked-told safes .1 .long
 
 keep-seen-requires : tie.Need-keep-seen-requires Inv-words μ-words
 keep-seen-requires c κs = search needs
@@ -255,7 +255,7 @@ module _ (k : tie.After-keep-seen Inv-words μ-words) where
   passed : fails (set judged) (judged .words .w) ≡ false
   passed =
       let all : 2 ^ set judged .n ≤ went .first-stuck .result = omega (arith, judged .words .inv .1, k .before .before .if3 .left) in
-      passes (set judged) (judged .words .w) (sym (marked-told marked .0) ∙ not-false _ (went .before .before .before .before .before .before .before .if2 .left))
+      passes (set judged) (judged .words .w) (sym (marked-told marked .0) ∙ not-false _ (went .before .before .before .if2 .left))
       (λ g h. stuck-told went .before g (omega (arith, all)))
 
 add-w-2 : tie.Need-add-w-2 Inv-words μ-words
@@ -295,18 +295,18 @@ by-way c all none never =
     (⊎-elim
     (λ x.
     let table = table-told o (x .7 .result) (mask-told o (x .4 .result) (x .4 .ensures) (x .7 .result) (x .7 .ensures)) (x .14 .result) (x .14 .ensures) in
-    let told = marked-safe (set o) (formed o) (o .words .w) (x .14 .result) table (x .19 .result) _ (x .19 .ensures .0) (x .19 .ensures .1) in
-    let off = not-true _ (x .22 .taken) in
-    none (ap length (x .23) ∙ told .1 .long) (omega (arith, o .words .inv .0, x .0 .taken)) (x .24 ∙ off) (sym (told .0) ∙ off))
+    let told = marked-safe (set o) (formed o) (o .words .w) (x .14 .result) table (x .16 .result) _ (x .16 .ensures .0) (x .16 .ensures .1) in
+    let off = not-true _ (x .19 .taken) in
+    none (ap length (x .20) ∙ told .1 .long) (omega (arith, o .words .inv .0, x .0 .taken)) (x .21 ∙ off) (sym (told .0) ∙ off))
     (λ x.
     let table = table-told o (x .7 .result) (mask-told o (x .4 .result) (x .4 .ensures) (x .7 .result) (x .7 .ensures)) (x .14 .result) (x .14 .ensures) in
-    let told = marked-safe (set o) (formed o) (o .words .w) (x .14 .result) table (x .19 .result) _ (x .19 .ensures .0) (x .19 .ensures .1) in
-    let on = not-false _ (x .22 .left) in
-    let below : x .29 .result < 2 ^ set o .n = omega (arith, o .words .inv .1, x .32 .taken) in
-    let stuck = first-endless (set o) (formed o) (o .words .w) (x .14 .result) table _ (told .1) _ (x .29 .result) (o .words .inv .1) (x .29 .ensures .0) in
-    never (ap length (x .33) ∙ x .29 .kept .1 .1 .1 .1 .1 .1 .1 .1 .0 ∙ told .1 .long) (omega (arith, o .words .inv .0, x .0 .taken)) (x .34 ∙ on) (sym (told .0) ∙ on)
-    (subst (λ (k : ℕ). k < 2 ^ set o .n) (sym (x .36)) below)
-    (subst (First (2 ^ set o .n) (endless (set o) (o .words .w))) (sym (x .36)) stuck)))
+    let told = marked-safe (set o) (formed o) (o .words .w) (x .14 .result) table (x .16 .result) _ (x .16 .ensures .0) (x .16 .ensures .1) in
+    let on = not-false _ (x .19 .left) in
+    let below : x .22 .result < 2 ^ set o .n = omega (arith, o .words .inv .1, x .25 .taken) in
+    let stuck = first-endless (set o) (formed o) (o .words .w) (x .14 .result) table _ (told .1) _ (x .22 .result) (o .words .inv .1) (x .22 .ensures .0) in
+    never (ap length (x .26) ∙ x .22 .kept .1 .1 .0 ∙ told .1 .long) (omega (arith, o .words .inv .0, x .0 .taken)) (x .27 ∙ on) (sym (told .0) ∙ on)
+    (subst (λ (k : ℕ). k < 2 ^ set o .n) (sym (x .29)) below)
+    (subst (First (2 ^ set o .n) (endless (set o) (o .words .w))) (sym (x .29)) stuck)))
     (c .words-test .came)
 
 told-by-requires : tie.Need-told-by-requires Inv-words μ-words
