@@ -12,9 +12,8 @@ use lib.ListN.{length, getD, set, length-set}
 use lib.Seq.{getD-set-same, getD-set-other}
 use Rattle.words.specs.Loop.{some, iterate}
 use Rattle.words.proofs.LoopTurns.{some-miss, missed-here, missed-all}
-use Rattle.scan.specs.Holds.{startFrom}
 use Rattle.verdict.specs.way.Marks.{marked, withMark}
-use Rattle.verdict.specs.way.Paths.{passesToMark, pathMarked, settled, trailPlaces, Trail, trailMarked, settledUpto}
+use Rattle.verdict.specs.way.Paths.{passesToMark, pathMarked, trailPlaces, Trail, trailMarked}
 
 -- one pass more, as code counts
 pub pass-more : (next : ℕ → ℕ) (from made v x : ℕ) → v ≡ iterate next made from → x ≡ next v → x ≡ iterate next (made + 1) from
@@ -98,16 +97,3 @@ trail-step trail begin more x marks l el ex = ap₂ withMark el ex ∙ ap (λ (k
 pub trail-begun : (trail : List ℕ) (begin : ℕ) (marks : List ℕ) → marks ≡ trailMarked trail begin 0 marks
 unfolding trailMarked
 trail-begun trail begin marks = refl
-
--- ---- the requests
-
-module _ (next : ℕ → ℕ) (f0 f1 limit : ℕ) (marks : List ℕ) where
-  pub settled-none : marks ≡ settledUpto next f0 f1 limit 0 marks
-  unfolding settledUpto
-  settled-none = refl
-
-  -- one request more
-  pub settled-more : (g from : ℕ) (l x : List ℕ) → l ≡ settledUpto next f0 f1 limit g marks → from ≡ startFrom f0 f1 g → x ≡ settled next limit from l
-      → x ≡ settledUpto next f0 f1 limit (g + 1) marks
-  unfolding settledUpto
-  settled-more g from l x el ef ex = ex ∙ ap₂ (settled next limit) ef el ∙ ap (λ (k : ℕ). settledUpto next f0 f1 limit k marks) (sym (add-one g))

@@ -1,7 +1,7 @@
 -- Marks at one read word of a well-formed set: they are right from the safe vectors on, stay right as requests are settled, and tell which walk
 -- never is safe.
 -- Assumes nothing.
-use mathlib.Core.Path.{_≡_, refl, sym, ap, _∙_, subst, fun-ext}
+use mathlib.Core.Path.{_≡_, sym, ap, _∙_, subst, fun-ext}
 use mathlib.Core.Bool.{Bool, true, false, not, _||_}
 use mathlib.Core.List.{List}
 use Prim.Native.Nat.{ℕ, zero, suc, _+_, _-_, _/_, _^_, _≤_, _<_}
@@ -10,9 +10,9 @@ use lib.Dec.{eqb}
 use lib.ListN.{length}
 use lib.Pow.{pow-pos}
 use borrow.Author.Tests.{eqb-true, ltb-true, ltb-false, not-true, not-false}
-use Rattle.words.specs.Loop.{some, first, iterate}
+use Rattle.words.specs.Loop.{some, iterate}
 use Rattle.words.proofs.BoolLaws.{by-test, clash, or-true, or-left}
-use Rattle.words.proofs.LoopLaws.{First, first-spec, first-cong, listed-long}
+use Rattle.words.proofs.LoopLaws.{First, first-spec, listed-long}
 use Rattle.words.proofs.Orbit.{iterate-add}
 use Rattle.scan.specs.declared.set.Set.{Set}
 use Rattle.scan.specs.Shape.{wellFormed}
@@ -28,7 +28,7 @@ use Rattle.scan.proofs.TableLaws.{table-safe, table-pass, table-start, table-li
 use Rattle.scan.proofs.WalkLaws.{ReachesFrom, safe-reaches, meets-reaches, walk-due, walk-never}
 use Rattle.verdict.specs.Judge.{isNever, endless, scratchBytes}
 use Rattle.verdict.specs.way.Marks.{marked, withMark, markByte, markedWhere}
-use Rattle.verdict.specs.way.Paths.{passesToMark, comesToMark, pathMarked, settled, settledUpto, stuckAt}
+use Rattle.verdict.specs.way.Paths.{passesToMark, comesToMark, pathMarked, settled}
 use Rattle.verdict.proofs.MarksLaws.{byte-lt, mark-length, marked-more, marked-here, marked-passes}
 use Rattle.verdict.proofs.PathsLaws.{markedAfter}
 
@@ -145,42 +145,13 @@ module _ (s : Set) (ok : wellFormed s ≡ true) (w : ℕ) (t : Table) (et : t �
     subst (Ready s w) (sym (ex ∙ ap (markedWhere (s .n)) safe-is)) (ready-safe s ok w),
   )
 
-  -- ---- the requests, one after the other
-
-  limit-is : t .limit ≡ passLimit s w
-  limit-is = ap (λ (y : Table). y .limit) et ∙ table-limit s w ok
-
-  start-is : (g : ℕ) → startFrom (t .holds .f0) (t .holds .f1) g ≡ startVector s w g
-  start-is g = ap (λ (y : Table). startFrom (y .holds .f0) (y .holds .f1) g) et ∙ table-start s w ok g
-
-  -- settling one leaves the marks right
-  ready-one : (marks : List ℕ) → Ready s w marks → (g : ℕ) → g < 2 ^ s .n
-      → Ready s w (settled (passIn t) (t .limit) (startFrom (t .holds .f0) (t .holds .f1) g) marks)
-  ready-one marks ready g fits =
-      subst (Ready s w) (sym (λ i. settled (pass-is i) (limit-is i) (start-is g i) marks)) (ready-settled s ok w marks ready g fits)
-
-  module _ (marks : List ℕ) (ready : Ready s w marks) where
-    pub ready-upto : (g : ℕ) → g ≤ 2 ^ s .n → Ready s w (settledUpto (passIn t) (t .holds .f0) (t .holds .f1) (t .limit) g marks)
-    unfolding settledUpto
-    ready-upto zero h = ready
-    ready-upto (suc g) h = ready-one _ (ready-upto g (omega arith)) g (omega arith)
-
-    -- a walk that does not come to a mark is one that never is safe
-    stuck-endless : (g : ℕ) → g < 2 ^ s .n → stuckAt (passIn t) (t .holds .f0) (t .holds .f1) (t .limit) marks g ≡ endless s w g
-    unfolding stuckAt
-    stuck-endless g h =
-        let upto = settledUpto (passIn t) (t .holds .f0) (t .holds .f1) (t .limit) g marks in
-        ap not ((λ i. comesToMark (pass-is i) upto (limit-is i) (start-is g i)) ∙ comes-endless s ok w upto (ready-upto g (omega arith)) g h)
-        ∙ twice (endless s w g)
-      where
-        twice : (b : Bool) → not (not b) ≡ b
-        twice true = refl
-        twice false = refl
-
-    -- so the first of them is the first request whose walk never is safe
-    pub first-endless : (requests g : ℕ) → requests ≡ 2 ^ s .n → g ≡ first requests (stuckAt (passIn t) (t .holds .f0) (t .holds .f1) (t .limit) marks)
-        → First (2 ^ s .n) (endless s w) g
-    first-endless requests g er eg =
-        subst (First (2 ^ s .n) (endless s w))
-        (sym (eg ∙ ap (λ (k : ℕ). first k (stuckAt (passIn t) (t .holds .f0) (t .holds .f1) (t .limit) marks)) er ∙ first-cong (2 ^ s .n) _ (endless s w) stuck-endless))
-        (first-spec (2 ^ s .n) (endless s w))
+  -- settling a request tells whether its walk never is safe, and leaves the marks right
+  pub settled-request : (marks : List ℕ) → Ready s w marks → (g : ℕ) → g < 2 ^ s .n → (from : ℕ) → from ≡ startFrom (t .holds .f0) (t .holds .f1) g
+      → (b : Bool) (x : List ℕ) → b ≡ comesToMark (passIn t) marks (t .limit) from → x ≡ settled (passIn t) (t .limit) from marks
+      → (b ≡ not (endless s w g)) × Ready s w x
+  settled-request marks ready g fits from ef b x eb ex =
+      let start : from ≡ startVector s w g = ef ∙ ap (λ (y : Table). startFrom (y .holds .f0) (y .holds .f1) g) et ∙ table-start s w ok g in
+      let limit : t .limit ≡ passLimit s w = ap (λ (y : Table). y .limit) et ∙ table-limit s w ok in (
+        eb ∙ (λ i. comesToMark (pass-is i) marks (limit i) (start i)) ∙ comes-endless s ok w marks ready g fits,
+        subst (Ready s w) (sym (ex ∙ (λ i. settled (pass-is i) (limit i) (start i) marks))) (ready-settled s ok w marks ready g fits),
+      )

@@ -2,15 +2,12 @@
 use super::marks::is_marked;
 use super::marks::put_mark;
 use scan::MOST_CONSTRAINTS;
-use scan::Table;
 use scan::pass_over;
-use scan::start_vector;
 ghost use mathlib.Core.Path.{_≡_};
 ghost use Prim.Native.Nat.{_-_};
 ghost use lib.ListN.{length};
-ghost use Rattle.words.specs.Loop.{first};
-ghost use Rattle.scan.specs.way.Table.{passOver, passIn};
-ghost use Rattle.verdict.specs.way.Paths.{trailPlaces, Trail, trailMarked, passesToMark, comesToMark, pathMarked, settled, stuckAt};
+ghost use Rattle.scan.specs.way.Table.{passOver};
+ghost use Rattle.verdict.specs.way.Paths.{trailPlaces, Trail, trailMarked, passesToMark, comesToMark, pathMarked, settled};
 
 // The places of the trail.
 pub const TRAIL: usize = 512;
@@ -93,7 +90,7 @@ fn mark_trail(trail: &[u16; TRAIL], begin: u32, made: u32, marks: &mut [u8])
 }
 
 // Whether the walk from `from` comes to a mark within `limit` passes; its path up to there is then marked, what the trail has lost of it by going again.
-fn settle<'a>(
+pub fn settle<'a>(
     plain: &'a [u16; MOST_CONSTRAINTS],
     named: &'a [u16; MOST_CONSTRAINTS],
     flip: &'a [u16; MOST_CONSTRAINTS],
@@ -123,34 +120,4 @@ fn settle<'a>(
     mark_path(plain, named, flip, count, from, lost, marks);
     mark_trail(trail, lost, made, marks);
     true
-}
-
-// The first request whose walk, by the table of a word, does not come to a mark, or their number; the paths of those before it are marked.
-pub fn first_stuck(t: Table, requests: u16, marks: &mut [u8], trail: &mut [u16; TRAIL]) -> u16
-    requires { ⌜ length (now trail) ≡ trailPlaces ⌝ }
-    ensures { λ r. ⌜ r ≡ first requests (stuckAt (passIn t) (t .holds .f0) (t .holds .f1) (t .limit) (now (marks .entry))) ⌝ }
-    ensures { λ r. ⌜ length (now (trail .exit)) ≡ trailPlaces ⌝ }
-{
-    let f0 = t.holds.f0;
-    let f1 = t.holds.f1;
-    let limit = t.limit;
-    let count = t.count;
-    let mut g: u16 = 0;
-    while g < requests {
-        let from = start_vector(f0, f1, g);
-        if !settle(
-            &t.plain,
-            &t.named,
-            &t.flip,
-            count,
-            from,
-            limit,
-            marks,
-            trail,
-        ) {
-            return g;
-        }
-        g = g + 1;
-    }
-    g
 }

@@ -3,7 +3,7 @@ use super::marks::mark_safe;
 use super::marks::scratch_bytes;
 use super::missing::first_without;
 use super::paths::TRAIL;
-use super::paths::first_stuck;
+use super::paths::settle;
 use super::seen::PLACES;
 use super::seen::is_seen;
 use super::seen::keep_seen;
@@ -13,6 +13,7 @@ use scan::build_by;
 use scan::columns_of;
 use scan::high_at;
 use scan::lows_of;
+use scan::start_vector;
 use shape::well_formed;
 ghost use mathlib.Core.Path.{_≡_};
 ghost use mathlib.Core.Bool.{true};
@@ -20,6 +21,7 @@ ghost use lib.ListN.{length, drop};
 ghost use Rattle.scan.specs.Shape.{wellFormed};
 ghost use Rattle.verdict.specs.Judge.{lacks, judgeWords, scratchBytes, judgeOf, looseBytes};
 ghost use Rattle.verdict.specs.FirstFailing.{fails, firstFailing};
+ghost use Rattle.verdict.specs.way.Paths.{trailPlaces};
 ghost use Rattle.verdict.specs.way.Seen.{Known};
 ghost use Rattle.verdict.specs.way.Left.{verdictBy};
 
@@ -51,8 +53,13 @@ fn told_by(words: u32, any: bool, w: u32, g: u16) -> Verdict
 
 // The first word that fails, and how, with a bit of scratch for each vector: document 01's loops. A word at which the same constraints are active as at a good
 // word before it is good.
-fn first_failing(set: Set, seen: &mut [u64; PLACES], marks: &mut [u8]) -> Verdict
-    requires { ⌜ (wellFormed set ≡ true) × (length (now marks) ≡ scratchBytes (set .n)) × Known set (fails set) (now seen) ⌝ }
+fn first_failing(
+    set: Set,
+    seen: &mut [u64; PLACES],
+    marks: &mut [u8],
+    trail: &mut [u16; TRAIL],
+) -> Verdict
+    requires { ⌜ (wellFormed set ≡ true) × (length (now marks) ≡ scratchBytes (set .n)) × (length (now trail) ≡ trailPlaces) × Known set (fails set) (now seen) ⌝ }
     ensures { λ r. ⌜ r ≡ firstFailing set ⌝ }
     ensures { λ r. ⌜ Known set (fails set) (now (seen .exit)) ⌝ }
 {
@@ -60,7 +67,6 @@ fn first_failing(set: Set, seen: &mut [u64; PLACES], marks: &mut [u8]) -> Verdic
     let requests = 1u16 << set.n;
     let by = columns_of(set);
     let lows = lows_of(&by.read_plain, &by.read_named, set.m);
-    let mut trail = [0u16; TRAIL];
     let mut any = true;
     let mut high: u64 = 0;
     let mut w: u32 = 0;
@@ -73,13 +79,18 @@ fn first_failing(set: Set, seen: &mut [u64; PLACES], marks: &mut [u8]) -> Verdic
             continue 'words;
         }
         let t = build_by(set, &by.out_plain, &by.out_negated, by.simple, active);
-        any = mark_safe(t, set.n, &mut *marks);
+        let count = t.count;
+        any = mark_safe(t, set.n, marks);
         if !any {
             break 'words;
         }
-        g = first_stuck(t, requests, &mut *marks, &mut trail);
-        if g < requests {
-            break 'words;
+        g = 0;
+        while g != requests {
+            let v = start_vector(t.holds.f0, t.holds.f1, g);
+            if !settle(&t.plain, &t.named, &t.flip, count, v, t.limit, marks, trail) {
+                break 'words;
+            }
+            g = g + 1;
         }
         keep_seen(&mut *seen, active);
         w = w + 1;
@@ -118,6 +129,7 @@ pub fn judge(set: Set, scratch: &mut [u8]) -> Verdict
         return Verdict::ShortScratch;
     }
     let mut seen = [0u64; PLACES];
-    let found = first_failing(set, &mut seen, &mut scratch[0..bytes]);
+    let mut trail = [0u16; TRAIL];
+    let found = first_failing(set, &mut seen, &mut scratch[0..bytes], &mut trail);
     revise(set, found, &mut seen)
 }

@@ -8,7 +8,6 @@ use mathlib.Core.List.{List}
 use lib.Dec.{ltb}
 use lib.ListN.{length, getD}
 use Rattle.words.specs.Loop.{first, iterate}
-use Rattle.scan.specs.Holds.{startFrom}
 use Rattle.verdict.specs.way.Marks.{marked, withMark}
 
 -- the passes from v to the first vector that is marked; limit + 1 if none of the vectors after 0 to `limit` passes is
@@ -45,14 +44,3 @@ pub record Trail (next : ℕ → ℕ) (v made : ℕ) (trail : List ℕ) : Type 0
 unfoldable pub trailMarked : List ℕ → ℕ → ℕ → List ℕ → List ℕ
 trailMarked trail begin zero marks = marks
 trailMarked trail begin (suc more) marks = withMark (trailMarked trail begin more marks) (getD trail ((begin + more) % trailPlaces) 0)
-
--- ---- the requests, one after the other
-
--- the marks after the walks of the first g requests
-unfoldable pub settledUpto : (ℕ → ℕ) → ℕ → ℕ → ℕ → ℕ → List ℕ → List ℕ
-settledUpto next f0 f1 limit zero marks = marks
-settledUpto next f0 f1 limit (suc g) marks = settled next limit (startFrom f0 f1 g) (settledUpto next f0 f1 limit g marks)
-
--- the walk of request g does not come to a mark
-unfoldable pub stuckAt : (ℕ → ℕ) → ℕ → ℕ → ℕ → List ℕ → ℕ → Bool
-stuckAt next f0 f1 limit marks g = not (comesToMark next (settledUpto next f0 f1 limit g marks) limit (startFrom f0 f1 g))

@@ -4,7 +4,7 @@ use mathlib.Core.Bool.{true}
 use Prim.Native.Nat.{ℕ, _-_, _≤_, min}
 use native.Mathlib.Nat.{sub-zero, min-eq-left}
 use native.Mathlib.Omega.{arith}
-use lib.ListN.{length}
+use lib.ListN.{length, length-replicate}
 use lib.Seq.{length-take-le}
 use borrow.Author.Tests.{not-true, not-false}
 use Rattle.scan.specs.declared.set.Set.{Set}
@@ -12,6 +12,7 @@ use Rattle.scan.specs.Set.{mostOutputs}
 use Rattle.scan.specs.Shape.{wellFormed}
 use Rattle.scan.proofs.ShapeLaws.{counts}
 use Rattle.verdict.specs.Judge.{scratchBytes}
+use Rattle.verdict.specs.way.Paths.{trailPlaces}
 use Rattle.verdict.proofs.JudgeLaws.{bad-set, short-scratch, judged, later-kept}
 use Rattle.verdict.proofs.SeenLaws.{known-none, known-vectors}
 use borrow.Author.Needs.{needs}
@@ -68,16 +69,16 @@ part-first-failing-end c = search needs
 
 first-failing-requires : tie.Need-first-failing-requires
 first-failing-requires c κs =
-    let f = c .before .before in
+    let f = c .before .before .before in
     let b = f .before in
     let a = start b .args in
     let room : bytes b - 0 ≤ length (a .scratch .now) = omega (arith, f .if2 .left) in
-    (formed b, length-take-le (bytes b - 0) (a .scratch .now) room ∙ part-is b, known-none (a .set) (formed b))
+    (formed b, length-take-le (bytes b - 0) (a .scratch .now) room ∙ part-is b, length-replicate {A = ℕ} trailPlaces 0, known-none (a .set) (formed b))
 
 revise-requires : tie.Need-revise-requires
 revise-requires c κs =
     let j = c .before .before .before in
-    let b = j .before .before .before .before in
+    let b = j .before .before .before .before .before in
     (formed b, j .first-failing .ensures .0, known-vectors (set b) _ (j .first-failing .ensures .1))
 
 same-length : tie.Need-same-length
@@ -86,7 +87,7 @@ same-length c = search needs
 returns-3 : tie.Need-returns-3
 returns-3 c =
     let j = c .before .before .before .before in
-    let f = j .before .before .before in
+    let f = j .before .before .before .before in
     let b = f .before in
     let a = start b .args in
     let room : scratchBytes (a .set .n) ≤ length (a .scratch .now) = omega (arith, bytes-told b, f .if2 .left) in (
