@@ -7,7 +7,7 @@
 #include <string.h>
 
 enum { MOST_READS = 16, MOST_OUTPUTS = 12, MOST_POINTS = 24, MOST_CONSTRAINTS = 64, NAME_PLACES = 8 };
-enum { MOST_FILE = 4096, MOST_SCRATCH = 512, PLACES = 251, LANES = 16, WORDS = 8, TRAIL = 512 };
+enum { MOST_FILE = 4096, MOST_SCRATCH = 512, PLACES = 251, LANES = 16, WORDS = 8, TRAIL = 1024 };
 enum kind { SENSOR, PAST_OUTPUT, PAST_SENSOR };
 
 struct read_point {
@@ -431,11 +431,15 @@ static void mark_path(const struct table *t, uint16_t from, unsigned made, const
         put_mark(marks, trail[k % TRAIL]);
 }
 
-// Whether the walk from `from` comes to a mark within the limit; its path is then marked.
+// Whether the walk from `from` comes to a mark within the limit; its path is then marked, at once where one pass leads to a mark.
 static bool settle(const struct table *t, uint16_t from, uint8_t *marks, uint16_t *trail)
 {
     if (is_marked(marks, from))
         return true;
+    if (t->limit != 0 && is_marked(marks, pass(t, from))) {
+        put_mark(marks, from);
+        return true;
+    }
     uint16_t v = from;
     unsigned made = 0;
     for (; !is_marked(marks, v); made++) {
@@ -444,10 +448,7 @@ static bool settle(const struct table *t, uint16_t from, uint8_t *marks, uint16_
             return false;
         v = pass(t, v);
     }
-    if (made == 1)
-        put_mark(marks, from);
-    else
-        mark_path(t, from, made, trail, marks);
+    mark_path(t, from, made, trail, marks);
     return true;
 }
 

@@ -3,7 +3,6 @@ use choice::either;
 use choice::least;
 use scan::MOST_CONSTRAINTS;
 use scan::MOST_OUTPUTS;
-use scan::Table;
 use scan::eight_of;
 use scan::low_held;
 use scan::safe_byte;
@@ -12,7 +11,7 @@ ghost use Prim.Native.Nat.{_≤_, _^_, min};
 ghost use lib.ListN.{length};
 ghost use Rattle.words.specs.Loop.{some, listed};
 ghost use Rattle.scan.specs.Set.{mostOutputs};
-ghost use Rattle.scan.specs.way.Table.{safeIn};
+ghost use Rattle.scan.specs.way.Table.{safeOver};
 ghost use Rattle.scan.specs.way.Eight.{safeByte};
 ghost use Rattle.verdict.specs.Judge.{scratchBytes};
 ghost use Rattle.verdict.specs.way.Marks.{marked, withMark, markedWhere, firstVectors, hasMark};
@@ -89,16 +88,21 @@ fn mark_bytes<'a>(
     any
 }
 
-// Marks the safe vectors of n outputs and no others, by the table of a word; whether there is one.
-pub fn mark_safe(t: Table, n: usize, marks: &mut [u8]) -> bool
+// Marks the safe vectors of n outputs and no others; whether there is one.
+pub fn mark_safe<'a>(
+    f0: u16,
+    f1: u16,
+    plain: &'a [u16; MOST_CONSTRAINTS],
+    named: &'a [u16; MOST_CONSTRAINTS],
+    count: usize,
+    n: usize,
+    marks: &mut [u8],
+) -> bool
     requires { ⌜ (n ≤ mostOutputs) × (length (now marks) ≡ scratchBytes n) ⌝ }
-    ensures { λ r. ⌜ r ≡ some (2 ^ n) (safeIn t) ⌝ }
-    ensures { λ r. ⌜ now (marks .exit) ≡ markedWhere n (safeIn t) ⌝ }
+    ensures { λ r. ⌜ r ≡ some (2 ^ n) (safeOver f0 f1 (now (plain .entry)) (now (named .entry)) count) ⌝ }
+    ensures { λ r. ⌜ now (marks .exit) ≡ markedWhere n (safeOver f0 f1 (now (plain .entry)) (now (named .entry)) count) ⌝ }
 {
-    let f0 = t.holds.f0;
-    let f1 = t.holds.f1;
-    let count = t.count;
-    let e = eight_of(&t.plain, &t.named, count);
+    let e = eight_of(plain, named, count);
     let held = low_held(f0, f1) & first_vectors(n);
     mark_bytes(held, f0, f1, &e.plain, &e.named, &e.low, count, marks)
 }

@@ -1,6 +1,7 @@
 // Walks to a mark at one read word, and the marking of their paths. The last vectors of a path are kept in a trail, so that a path that is not longer is gone once.
 use super::marks::is_marked;
 use super::marks::put_mark;
+use choice::both;
 use scan::MOST_CONSTRAINTS;
 use scan::pass_over;
 ghost use mathlib.Core.Path.{_≡_};
@@ -10,7 +11,7 @@ ghost use Rattle.scan.specs.way.Table.{passOver};
 ghost use Rattle.verdict.specs.way.Paths.{trailPlaces, Trail, trailMarked, passesToMark, comesToMark, pathMarked, settled};
 
 // The places of the trail.
-pub const TRAIL: usize = 512;
+pub const TRAIL: usize = 1024;
 
 // The passes from `from` to the first vector that is marked; limit + 1 if none of the vectors after 0 to `limit` passes is. The last vectors before it are in
 // the trail, each at the number of its passes modulo the places.
@@ -89,7 +90,8 @@ fn mark_trail(trail: &[u16; TRAIL], begin: u32, made: u32, marks: &mut [u8])
     }
 }
 
-// Whether the walk from `from` comes to a mark within `limit` passes; its path up to there is then marked, what the trail has lost of it by going again.
+// Whether the walk from `from` comes to a mark within `limit` passes; its path up to there is then marked: at once where one pass leads to a mark, as most do, and
+// else from the trail, what that has lost by going again.
 pub fn settle<'a>(
     plain: &'a [u16; MOST_CONSTRAINTS],
     named: &'a [u16; MOST_CONSTRAINTS],
@@ -108,13 +110,14 @@ pub fn settle<'a>(
     if is_marked(marks, from) {
         return true;
     }
+    let next = pass_over(plain, named, flip, count, from);
+    if both(0 < limit, is_marked(marks, next)) {
+        put_mark(marks, from);
+        return true;
+    }
     let made = passes_to_mark(plain, named, flip, count, from, limit, marks, trail);
     if (limit as u32) < made {
         return false;
-    }
-    if made == 1 {
-        put_mark(marks, from);
-        return true;
     }
     let lost = lost_of(made);
     mark_path(plain, named, flip, count, from, lost, marks);

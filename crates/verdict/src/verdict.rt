@@ -79,15 +79,18 @@ fn first_failing(
             continue 'words;
         }
         let t = build_by(set, &by.out_plain, &by.out_negated, by.simple, active);
+        let f0 = t.holds.f0;
+        let f1 = t.holds.f1;
+        let limit = t.limit;
         let count = t.count;
-        any = mark_safe(t, set.n, marks);
+        any = mark_safe(f0, f1, &t.plain, &t.named, count, set.n, marks);
         if !any {
             break 'words;
         }
         g = 0;
         while g != requests {
-            let v = start_vector(t.holds.f0, t.holds.f1, g);
-            if !settle(&t.plain, &t.named, &t.flip, count, v, t.limit, marks, trail) {
+            let v = start_vector(f0, f1, g);
+            if !settle(&t.plain, &t.named, &t.flip, count, v, limit, marks, trail) {
                 break 'words;
             }
             g = g + 1;

@@ -33,7 +33,7 @@ settled next limit v marks =
 
 -- its places
 abbrev pub trailPlaces : ℕ
-trailPlaces = 512
+trailPlaces = 1024
 
 -- of the first `made` vectors of the path from v the last are in the trail, each at the number of its passes modulo the places
 pub record Trail (next : ℕ → ℕ) (v made : ℕ) (trail : List ℕ) : Type 0 where

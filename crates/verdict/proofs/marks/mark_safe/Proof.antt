@@ -5,7 +5,6 @@ use native.Mathlib.Omega.{arith}
 use lib.ListN.{length}
 use lib.Bits.{bitAnd}
 use Rattle.words.specs.Loop.{some, listed}
-use Rattle.scan.specs.declared.table.Table.{Table}
 use Rattle.scan.specs.Set.{mostOutputs}
 use Rattle.scan.specs.way.Eight.{lowHeld, eightOf, safeByte}
 use Rattle.verdict.specs.way.Marks.{firstVectors, hasMark}
@@ -24,33 +23,30 @@ low-held-requires c κs = search needs
 first-vectors-requires : tie.Need-first-vectors-requires
 first-vectors-requires c κs = search needs
 
--- the table of a call; its entries for judging eight at once, and what is held of eight vectors: of those that there are
+-- the arguments of a call; the entries for judging eight at once, and what is held of eight vectors: of those that there are
 module _ (v : tie.After-first-vectors) where
   abbrev start : tie.Start
-  start = v .before .before .before .before .before .before .before
-
-  abbrev t : Table
-  t = start .args .t1
+  start = v .before .before .before .before
 
   abbrev held : ℕ
   held = bitAnd (v .before .low-held .result) (v .first-vectors .result)
 
-  eight-told : v .before .before .eight-of .result ≡ eightOf (t .plain) (t .named) (t .count)
+  eight-told : v .before .before .eight-of .result ≡ eightOf (start .args .plain .now) (start .args .named .now) (start .args .count)
   eight-told = v .before .before .eight-of .ensures
 
-  held-told : held ≡ bitAnd (lowHeld (t .holds .f0) (t .holds .f1)) (firstVectors (start .args .n))
+  held-told : held ≡ bitAnd (lowHeld (start .args .f0) (start .args .f1)) (firstVectors (start .args .n))
   held-told = ap₂ bitAnd (v .before .low-held .ensures) (v .first-vectors .ensures)
 
   abbrev byte : ℕ → ℕ
   byte =
-      safeByte held (t .holds .f0) (t .holds .f1) (v .before .before .eight-of .result .plain) (v .before .before .eight-of .result .named)
-      (v .before .before .eight-of .result .low) (t .count)
+      safeByte held (start .args .f0) (start .args .f1) (v .before .before .eight-of .result .plain) (v .before .before .eight-of .result .named)
+      (v .before .before .eight-of .result .low) (start .args .count)
 
 mark-bytes-requires : tie.Need-mark-bytes-requires
 mark-bytes-requires c κs =
     let v = c .before .before .before .before .before in
     let s = start v in (
-      omega (arith, held-told v, held-le (t v .holds .f0) (t v .holds .f1) (s .args .n)),
+      omega (arith, held-told v, held-le (s .args .f0) (s .args .f1) (s .args .n)),
       omega (arith, s .pre .1, scratch-mono (s .args .n) mostOutputs (s .pre .0), scratch-eighth mostOutputs (omega arith)),
     )
 
@@ -64,9 +60,9 @@ returns c =
     let s = start v in
     let any : m .mark-bytes .result ≡ some (length (s .args .marks .now)) (hasMark (byte v)) = m .mark-bytes .ensures .0 in (
       any ∙ ap (λ (k : ℕ). some k (hasMark (byte v))) (s .pre .1)
-          ∙ some-safe (s .args .n) (t v .plain) (t v .named) (t v .count) _ (eight-told v) (t v .holds .f0) (t v .holds .f1) (held v) (held-told v),
+          ∙ some-safe (s .args .n) (s .args .plain .now) (s .args .named .now) (s .args .count) _ (eight-told v) (s .args .f0) (s .args .f1) (held v) (held-told v),
       m .mark-bytes .ensures .1 ∙ ap (λ (k : ℕ). listed k (byte v)) (s .pre .1)
-          ∙ bytes-are (s .args .n) (t v .plain) (t v .named) (t v .count) _ (eight-told v) (t v .holds .f0) (t v .holds .f1) (held v) (held-told v),
+          ∙ bytes-are (s .args .n) (s .args .plain .now) (s .args .named .now) (s .args .count) _ (eight-told v) (s .args .f0) (s .args .f1) (held v) (held-told v),
     )
 
 pub mark-safe-spec : {M : Type 1} → statement M

@@ -44,11 +44,11 @@ use Rattle.verdict.proofs.verdict.first_failing.Statement.{statement}
 use Rattle.verdict.proofs.verdict.first_failing.Tie as tie
 
 abbrev Inv-loop : tie.InvT-loop
-Inv-loop set seen marks₀ trail₀ words requests by lows any high w g₀ active t count marks trail g =
+Inv-loop set seen marks₀ trail₀ words requests by lows any high w g₀ active t f0 f1 limit count marks trail g =
     (g ≤ requests) × Ready set w marks × (length trail ≡ trailPlaces) × (some g (endless set w) ≡ false)
 
 abbrev μ-loop : tie.MeasureT-loop
-μ-loop set seen marks₀ trail₀ words requests by lows any high w g₀ active t count marks trail g = requests - g
+μ-loop set seen marks₀ trail₀ words requests by lows any high w g₀ active t f0 f1 limit count marks trail g = requests - g
 
 abbrev Inv-words : tie.InvT-words
 Inv-words set seen₀ marks₀ trail₀ words requests by lows any₀ high₀ w₀ g₀ seen marks trail any high w g =
@@ -202,7 +202,7 @@ build-by-requires c κs = search needs
 -- the word at which the safe vectors were marked, its table and its marks
 module _ (m : tie.After-mark-safe Inv-loop μ-loop Inv-words μ-words) where
   abbrev built : tie.After-build-by Inv-loop μ-loop Inv-words μ-words
-  built = m .before .before
+  built = m .before .before .before .before .before
 
   abbrev looked : tie.After-active-in Inv-loop μ-loop Inv-words μ-words
   looked = built .before .before .before .before .before .before .before
@@ -214,7 +214,7 @@ module _ (m : tie.After-mark-safe Inv-loop μ-loop Inv-words μ-words) where
   built-told = table-told word (looked .active-in .result) (active-told looked) (built .build-by .result) (built .build-by .ensures)
 
   abbrev marks : List ℕ
-  marks = m .mark-safe .last .1 .1 .0
+  marks = m .mark-safe .last .1 .1 .1 .1 .1 .1 .0
 
   -- what marking them tells of the word, and that the marks are right
   marked-told : (m .mark-safe .result ≡ hasVector (set word) (word .words .w)) × Ready (set word) (word .words .w) marks
@@ -224,7 +224,7 @@ module _ (m : tie.After-mark-safe Inv-loop μ-loop Inv-words μ-words) where
 
 mark-safe-requires : tie.Need-mark-safe-requires Inv-loop μ-loop Inv-words μ-words
 mark-safe-requires c κs =
-    let o = at (c .before .before .before .before .before .before .before .before) in
+    let o = at (c .before .before .before .before .before .before .before .before .before .before .before) in
     (few (start o) .1, o .words .inv .3)
 
 -- the request at which a walk was settled
@@ -337,21 +337,21 @@ by-way c all none never =
     (⊎-elim
     (λ x.
     let table = table-told o (x .7 .result) (mask-told o (x .4 .result) (x .4 .ensures) (x .7 .result) (x .7 .ensures)) (x .14 .result) (x .14 .ensures) in
-    let told = marked-safe (set o) (formed o) (o .words .w) (x .14 .result) table (x .16 .result) _ (x .16 .ensures .0) (x .16 .ensures .1) in
-    let off = not-true _ (x .19 .taken) in
-    none (ap length (x .20) ∙ told .1 .long) (omega (arith, o .words .inv .0, x .0 .taken)) (x .22 ∙ off) (sym (told .0) ∙ off))
+    let told = marked-safe (set o) (formed o) (o .words .w) (x .14 .result) table (x .19 .result) _ (x .19 .ensures .0) (x .19 .ensures .1) in
+    let off = not-true _ (x .22 .taken) in
+    none (ap length (x .23) ∙ told .1 .long) (omega (arith, o .words .inv .0, x .0 .taken)) (x .25 ∙ off) (sym (told .0) ∙ off))
     (λ x.
     let table = table-told o (x .7 .result) (mask-told o (x .4 .result) (x .4 .ensures) (x .7 .result) (x .7 .ensures)) (x .14 .result) (x .14 .ensures) in
-    let told = marked-safe (set o) (formed o) (o .words .w) (x .14 .result) table (x .16 .result) _ (x .16 .ensures .0) (x .16 .ensures .1) in
-    let on = not-false _ (x .19 .left) in
-    let below : x .20 .g < 2 ^ set o .n = omega (arith, o .words .inv .1, x .21 .taken) in
-    let ended = settled-request (set o) (formed o) (o .words .w) (x .14 .result) table (x .20 .marks) (x .20 .inv .1) (x .20 .g) below
-    (x .22 .result) (x .22 .ensures) (x .29 .result) _ (x .29 .ensures .0) (x .29 .ensures .1 .0) in
-    let off = not-true _ (x .32 .taken) in
-    never (ap length (x .33) ∙ ended .1 .long) (omega (arith, o .words .inv .0, x .0 .taken)) (x .35 ∙ on) (sym (told .0) ∙ on)
-    (subst (λ (k : ℕ). k < 2 ^ set o .n) (sym (x .37)) below)
-    (subst (λ (k : ℕ). some k (endless (set o) (o .words .w)) ≡ false) (sym (x .37)) (x .20 .inv .3))
-    (ap (endless (set o) (o .words .w)) (x .37) ∙ not-false _ (sym (ended .0) ∙ off))))
+    let told = marked-safe (set o) (formed o) (o .words .w) (x .14 .result) table (x .19 .result) _ (x .19 .ensures .0) (x .19 .ensures .1) in
+    let on = not-false _ (x .22 .left) in
+    let below : x .23 .g < 2 ^ set o .n = omega (arith, o .words .inv .1, x .24 .taken) in
+    let ended = settled-request (set o) (formed o) (o .words .w) (x .14 .result) table (x .23 .marks) (x .23 .inv .1) (x .23 .g) below
+    (x .25 .result) (x .25 .ensures) (x .32 .result) _ (x .32 .ensures .0) (x .32 .ensures .1 .0) in
+    let off = not-true _ (x .35 .taken) in
+    never (ap length (x .36) ∙ ended .1 .long) (omega (arith, o .words .inv .0, x .0 .taken)) (x .38 ∙ on) (sym (told .0) ∙ on)
+    (subst (λ (k : ℕ). k < 2 ^ set o .n) (sym (x .40)) below)
+    (subst (λ (k : ℕ). some k (endless (set o) (o .words .w)) ≡ false) (sym (x .40)) (x .23 .inv .3))
+    (ap (endless (set o) (o .words .w)) (x .40) ∙ not-false _ (sym (ended .0) ∙ off))))
     (c .words-test .came)
 
 told-by-requires : tie.Need-told-by-requires Inv-loop μ-loop Inv-words μ-words
