@@ -1,7 +1,7 @@
 -- Change request K8: how many bytes one bit for each vector needs, the verdict beside the one with a byte for each, and eight vectors and words at once.
 -- Assumes nothing.
 use mathlib.Core.Path.{_≡_, refl, sym, ap, _∙_}
-use mathlib.Core.Bool.{true, false}
+use mathlib.Core.Bool.{Bool, true, false, cond, not}
 use mathlib.Core.List.{[], _∷_}
 use mathlib.Core.Logic.{_≢_}
 use Prim.Native.Nat.{ℕ, _+_, _*_, _/_, _^_, _≤_, _<_}
@@ -50,11 +50,15 @@ module _ (s : Set) (room : ℕ) where
   module _ (ok : wellFormed s ≡ true) where
     was-short : room < 2 ^ s .n → judgeByBytes s room ≡ ShortScratch
     unfolding judgeByBytes
-    was-short h = rw (ok, lt-ltb room (2 ^ s .n) h)
+    was-short h =
+        ap (λ (b : Bool). cond (not b) BadSet (cond (ltb room (2 ^ s .n)) ShortScratch (judgeWords s))) ok
+        ∙ ap (λ (b : Bool). cond b ShortScratch (judgeWords s)) (lt-ltb room (2 ^ s .n) h)
 
     was-judged : 2 ^ s .n ≤ room → judgeByBytes s room ≡ judgeWords s
     unfolding judgeByBytes
-    was-judged h = rw (ok, le-ltb room (2 ^ s .n) h)
+    was-judged h =
+        ap (λ (b : Bool). cond (not b) BadSet (cond (ltb room (2 ^ s .n)) ShortScratch (judgeWords s))) ok
+        ∙ ap (λ (b : Bool). cond b ShortScratch (judgeWords s)) (le-ltb room (2 ^ s .n) h)
 
 -- scratch enough under the rule before is enough under the new one
 fewer : (n : ℕ) → scratchBytes n ≤ 2 ^ n
@@ -89,7 +93,7 @@ module _ (s : Set) (room : ℕ) where
           (λ ok h. absurd (neither ok h .1 e)),
       λ x. ap verdictTold (was-short s room (x .0) (x .1)),
     );
-    same = λ h l. by-test (wellFormed s) (λ ok. sym (judged s room ok l) ∙ sym (was-judged s room ok h)) bad;
+    same = λ h l. by-test (wellFormed s) (λ ok. sym (judged s room ok l) ∙ sym (was-judged s room ok (omega (arith, h)))) bad;
     bad = bad;
     short = λ h. by-test (wellFormed s) (λ ok. sym (short-scratch s room ok h) ∙ sym (was-short s room ok (omega (arith, fewer (s .n))))) bad;
     moved = λ ok l h. (

@@ -437,6 +437,7 @@ lateAt1 =
     setOf (sensorS ∷ []) ((0x41 ∷ []) ∷ (0x42 ∷ []) ∷ (0x43 ∷ []) ∷ (0x44 ∷ []) ∷ [])
     (product 1 0 8 0 [] ∷ product 1 0 0 4 [] ∷ product 1 0 0 1 [] ∷ [])
 
+-- scratch of the sizes around those that are needed, and verdicts that go by bits of more than one byte
 abbrev pub scratchCases : List Case
 scratchCases =
     -- one byte up to three outputs, two for four, 512 for twelve; 21 with one less, and 20 before it
