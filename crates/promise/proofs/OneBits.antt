@@ -48,17 +48,15 @@ module _ (s : Set) (room : ℕ) where
   was-bad e = rw e
 
   module _ (ok : wellFormed s ≡ true) where
-    was-short : room < 2 ^ s .n → judgeByBytes s room ≡ ShortScratch
+    was-tested : judgeByBytes s room ≡ cond (ltb room (2 ^ s .n)) ShortScratch (judgeWords s)
     unfolding judgeByBytes
-    was-short h =
-        ap (λ (b : Bool). cond (not b) BadSet (cond (ltb room (2 ^ s .n)) ShortScratch (judgeWords s))) ok
-        ∙ ap (λ (b : Bool). cond b ShortScratch (judgeWords s)) (lt-ltb room (2 ^ s .n) h)
+    was-tested = ap (λ (b : Bool). cond (not b) BadSet (cond (ltb room (2 ^ s .n)) ShortScratch (judgeWords s))) ok
+
+    was-short : room < 2 ^ s .n → judgeByBytes s room ≡ ShortScratch
+    was-short h = was-tested ∙ ap (λ (b : Bool). cond b ShortScratch (judgeWords s)) (lt-ltb room (2 ^ s .n) h)
 
     was-judged : 2 ^ s .n ≤ room → judgeByBytes s room ≡ judgeWords s
-    unfolding judgeByBytes
-    was-judged h =
-        ap (λ (b : Bool). cond (not b) BadSet (cond (ltb room (2 ^ s .n)) ShortScratch (judgeWords s))) ok
-        ∙ ap (λ (b : Bool). cond b ShortScratch (judgeWords s)) (le-ltb room (2 ^ s .n) h)
+    was-judged h = was-tested ∙ ap (λ (b : Bool). cond b ShortScratch (judgeWords s)) (le-ltb room (2 ^ s .n) h)
 
 -- scratch enough under the rule before is enough under the new one
 fewer : (n : ℕ) → scratchBytes n ≤ 2 ^ n
