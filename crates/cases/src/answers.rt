@@ -29,6 +29,10 @@ pub fn print_verdict(mark: u8, v: Verdict) {
     print_behind(b' ', verdict::number_of(v) as usize);
     match v {
         Verdict::NoVector { word } => print_behind(mark, word as usize),
+        Verdict::Clash { word, output } => {
+            print_behind(mark, word as usize);
+            print_behind(mark, output as usize);
+        }
         Verdict::NoEnd { word, request } => {
             print_behind(mark, word as usize);
             print_behind(mark, request as usize);

@@ -88,6 +88,11 @@ fn print_rejected(v: Verdict) {
             io::write_all(1, b"NOVECTOR");
             print_behind(b' ', word as usize);
         }
+        Verdict::Clash { word, output } => {
+            io::write_all(1, b"CLASH");
+            print_behind(b' ', word as usize);
+            print_behind(b' ', output as usize);
+        }
         Verdict::NoEnd { word, request } => {
             io::write_all(1, b"NOEND");
             print_behind(b' ', word as usize);

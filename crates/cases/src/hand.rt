@@ -1,8 +1,9 @@
-// Cases that no file can show: sets and states made by hand, and what is left of lent buffers and scratch.
+// Cases that no file can show: sets and states made by hand, the reckoning of holds, and what is left of lent buffers and scratch.
 use super::answers::print_verdict;
 use super::answers::print_written;
 use super::printing::print_behind;
 use machine::ScanAnswer;
+use scan::Holds;
 use scan::Set;
 use scan::State;
 use shape::Found;
@@ -377,6 +378,32 @@ fn print_verdicts() {
     io::write_all(1, b"\n");
 }
 
+// The reckoning of holds at a read word: 0 and the two words of forced outputs, or 58 and the lowest output forced both ways.
+fn print_held(set: Set, w: u32) {
+    let holds = scan::hold(set, w);
+    match holds {
+        Holds::Forced { f0, f1 } => {
+            io::write_all(1, b" 0");
+            print_behind(b' ', f0 as usize);
+            print_behind(b' ', f1 as usize);
+        }
+        Holds::Clash { output } => {
+            io::write_all(1, b" 58");
+            print_behind(b' ', output as usize);
+        }
+    }
+    io::write_all(1, b",");
+}
+
+fn print_holds() {
+    io::write_all(1, b"hold:");
+    print_held(set_p(), 0);
+    print_held(set_p(), 1);
+    print_held(set_clashing(), 0);
+    print_held(set_clashing(), 1);
+    io::write_all(1, b"\n");
+}
+
 fn print_finds() {
     io::write_all(1, b"find:");
     print_found_p(b"007");
@@ -445,6 +472,7 @@ pub fn print_all() {
     print_formed();
     print_writes();
     print_verdicts();
+    print_holds();
     print_finds();
     print_scans();
     print_edges();

@@ -18,7 +18,7 @@ use Rattle.loader.specs.declared.loader.LoadAnswer.the-variants.{Loaded as WasL
 use Rattle.loader.specs.Load.{loadOf}
 use Rattle.verdict.specs.declared.verdict.Verdict.{Verdict}
 use Rattle.verdict.specs.Judge.{judgeOf, looseBytes}
-use Rattle.line.specs.declared.printer.Line.the-variants.{Accept, Load, NoVector, NoEnd}
+use Rattle.line.specs.declared.printer.Line.the-variants.{Accept, Load, NoVector, Clash, NoEnd}
 use Rattle.line.specs.Line.{spaced, lineBytes, lineAnswer, bufferAfter, verdictLine, answerLine, lineOf, answerLoose, looseOf}
 
 -- one, two and three pieces behind a word
@@ -46,6 +46,11 @@ module _ (l : Line) where
       → t1 ≡ t0 ++ spaced word → t2 ≡ t1 ++ (0x0A ∷ []) → t2 ≡ lineBytes l
   unfolding lineBytes
   no-vector-made word t0 t1 t2 h e0 e1 e2 = one-piece _ (spaced word) t0 t1 t2 _ e0 e1 e2 ∙ ap lineBytes (sym h)
+
+  pub clash-made : (word output : ℕ) (t0 t1 t2 t3 : List ℕ) → l ≡ Clash word output → t0 ≡ 0x43 ∷ 0x4C ∷ 0x41 ∷ 0x53 ∷ 0x48 ∷ []
+      → t1 ≡ t0 ++ spaced word → t2 ≡ t1 ++ spaced output → t3 ≡ t2 ++ (0x0A ∷ []) → t3 ≡ lineBytes l
+  unfolding lineBytes
+  clash-made word output t0 t1 t2 t3 h e0 e1 e2 e3 = two-pieces _ (spaced word) (spaced output) t0 t1 t2 t3 _ e0 e1 e2 e3 ∙ ap lineBytes (sym h)
 
   pub no-end-made : (word request : ℕ) (t0 t1 t2 t3 : List ℕ) → l ≡ NoEnd word request → t0 ≡ 0x4E ∷ 0x4F ∷ 0x45 ∷ 0x4E ∷ 0x44 ∷ []
       → t1 ≡ t0 ++ spaced word → t2 ≡ t1 ++ spaced request → t3 ≡ t2 ++ (0x0A ∷ []) → t3 ≡ lineBytes l

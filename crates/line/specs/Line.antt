@@ -11,10 +11,10 @@ use Rattle.loader.specs.declared.loader.LoadAnswer.{LoadAnswer}
 use Rattle.loader.specs.declared.loader.LoadAnswer.the-variants.{Loaded, Refused}
 use Rattle.loader.specs.Load.{loadOf}
 use Rattle.verdict.specs.declared.verdict.Verdict.{Verdict}
-use Rattle.verdict.specs.declared.verdict.Verdict.the-variants.{Accepted, BadSet, ShortScratch, NoVector as WordNoVector, NoEnd as WordNoEnd}
+use Rattle.verdict.specs.declared.verdict.Verdict.the-variants.{Accepted, BadSet, ShortScratch, NoVector as WordNoVector, Clash as WordClash, NoEnd as WordNoEnd}
 use Rattle.verdict.specs.Judge.{judgeOf, looseBytes}
 use Rattle.line.specs.declared.printer.Line.{Line}
-use Rattle.line.specs.declared.printer.Line.the-variants.{Accept, Load, NoVector, NoEnd}
+use Rattle.line.specs.declared.printer.Line.the-variants.{Accept, Load, NoVector, Clash, NoEnd}
 
 -- ---- numbers
 
@@ -29,6 +29,7 @@ unfoldable pub lineBytes : Line → List ℕ
 lineBytes (Accept r n m) = (0x41 ∷ 0x43 ∷ 0x43 ∷ 0x45 ∷ 0x50 ∷ 0x54 ∷ []) ++ spaced r ++ spaced n ++ spaced m ++ (0x0A ∷ [])
 lineBytes (Load number offset) = (0x4C ∷ 0x4F ∷ 0x41 ∷ 0x44 ∷ []) ++ spaced number ++ spaced offset ++ (0x0A ∷ [])
 lineBytes (NoVector word) = (0x4E ∷ 0x4F ∷ 0x56 ∷ 0x45 ∷ 0x43 ∷ 0x54 ∷ 0x4F ∷ 0x52 ∷ []) ++ spaced word ++ (0x0A ∷ [])
+lineBytes (Clash word output) = (0x43 ∷ 0x4C ∷ 0x41 ∷ 0x53 ∷ 0x48 ∷ []) ++ spaced word ++ spaced output ++ (0x0A ∷ [])
 lineBytes (NoEnd word request) = (0x4E ∷ 0x4F ∷ 0x45 ∷ 0x4E ∷ 0x44 ∷ []) ++ spaced word ++ spaced request ++ (0x0A ∷ [])
 
 -- the line's length, or 0 where the buffer has fewer bytes
@@ -47,6 +48,7 @@ verdictLine s Accepted = Accept (s .r) (s .n) (s .m)
 verdictLine s BadSet = Load 20 0
 verdictLine s ShortScratch = Load 21 0
 verdictLine s (WordNoVector word) = NoVector word
+verdictLine s (WordClash word output) = Clash word output
 verdictLine s (WordNoEnd word request) = NoEnd word request
 
 -- the line of a load's answer: its refusal, or the line of the verdict on the set with so many bytes of scratch

@@ -29,6 +29,7 @@ fn verdict_line(set: Set, verdict: Verdict) -> Line
             offset: 0,
         },
         Verdict::NoVector { word } => Line::NoVector { word },
+        Verdict::Clash { word, output } => Line::Clash { word, output },
         Verdict::NoEnd { word, request } => Line::NoEnd { word, request },
     }
 }

@@ -15,6 +15,7 @@ pub enum Line {
     Accept { r: usize, n: usize, m: usize },
     Load { number: u8, offset: usize },
     NoVector { word: u32 },
+    Clash { word: u32, output: u16 },
     NoEnd { word: u32, request: u16 },
 }
 
@@ -34,6 +35,10 @@ fn line_draft(line: Line) -> Draft
         Line::NoVector { word } => {
             let t = word_draft(*b"NOVECTOR", 8);
             with_byte(with_number(t, word as usize), 0x0A)
+        },
+        Line::Clash { word, output } => {
+            let t = with_number(word_draft(*b"CLASH\0\0\0", 5), word as usize);
+            with_byte(with_number(t, output as usize), 0x0A)
         },
         Line::NoEnd { word, request } => {
             let t = with_number(word_draft(*b"NOEND\0\0\0", 5), word as usize);

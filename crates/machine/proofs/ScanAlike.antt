@@ -11,8 +11,8 @@ use Rattle.scan.specs.declared.set.Kind.{Kind}
 use Rattle.scan.specs.declared.set.Set.{Set}
 use Rattle.scan.specs.Set.{stateOf}
 use Rattle.scan.specs.Shape.{isSensor, wellFormed}
-use Rattle.scan.specs.Holds.{unheldCount, startFrom, startVector}
-use Rattle.scan.specs.Walk.{walkBy, walk}
+use Rattle.scan.specs.Holds.{reckoned, unheldCount}
+use Rattle.scan.specs.Walk.{walkHeld, walk}
 use Rattle.machine.specs.Past.{sensorBefore, reading, readingAt, readWord}
 use Rattle.machine.specs.Machine.{stateOk, isPast, sensorOk, requestOk, scanOf}
 use Rattle.machine.proofs.MachineLaws.{answerBy, scan-answer}
@@ -21,9 +21,9 @@ use Rattle.scan.proofs.LoneRanks.{AlikeButLone, F0-alike, F1-alike, unheld-alik
 module _ (s t : Set) (a : AlikeButLone s t) (w : ℕ) where
   -- every walk is the same
   pub walk-alike : (request : ℕ) → walk s w request ≡ walk t w request
-  unfolding walk unheldCount startVector
+  unfolding walk unheldCount
   walk-alike g = λ i.
-      walkBy (fun-ext (safe-alike s t a w) i) (fun-ext (pass-alike s t a w) i) (2 ^ popcount (unheld-alike s t a w i) - 1) (startFrom (F0-alike s t a w i) (F1-alike s t a w i) g) 0
+      walkHeld (fun-ext (safe-alike s t a w) i) (fun-ext (pass-alike s t a w) i) (2 ^ popcount (unheld-alike s t a w i) - 1) g (reckoned (F0-alike s t a w i) (F1-alike s t a w i))
 
 module _ (s t : Set) (a : AlikeButLone s t) (formed : wellFormed s ≡ wellFormed t) (output sensor : ℕ) (accepted : Bool) (present request : ℕ) where
   -- the past sensor word that the scan reads

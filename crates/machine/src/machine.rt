@@ -2,6 +2,7 @@
 use super::past::read_points;
 use super::past::sensor_before;
 use choice::both;
+use scan::Holds;
 use scan::Set;
 use scan::State;
 use scan::Walk;
@@ -57,7 +58,7 @@ fn is_state_ok(st: State) -> bool
     )
 }
 
-// The walk of a well-formed set at the read word w from a request.
+// The walk of a well-formed set at the read word w from a request; where an output is forced both ways no pass is made.
 fn walk_from(s: Set, w: u32, request: u16) -> Walk
     requires { ⌜ wellFormed s ≡ true ⌝ }
     ensures { λ r. ⌜ r ≡ walk s w request ⌝ }
@@ -66,7 +67,11 @@ fn walk_from(s: Set, w: u32, request: u16) -> Walk
     let by = columns_of(s);
     let active = active_at(&by.read_plain, &by.read_named, m, w);
     let t = build_by(s, &by.out_plain, &by.out_negated, by.simple, active);
-    walk_over(t, start_vector(t.holds.f0, t.holds.f1, request), t.limit)
+    let holds = t.holds;
+    match holds {
+        Holds::Forced { f0, f1 } => { walk_over(t, f0, f1, start_vector(f0, f1, request), t.limit) }
+        Holds::Clash { output: _ } => Walk::Never,
+    }
 }
 
 fn refuse(st: State, answer: ScanAnswer) -> Scanned

@@ -1,4 +1,4 @@
--- The worked cases hold, by computation: document 01's starred ones, those for what they leave open, and those of change requests K5 and K6.
+-- The worked cases hold, by computation: document 01's starred ones, those for what they leave open, and those of change requests K5, K6, K8 and K10.
 -- Assumes nothing.
 use mathlib.Core.Path.{refl}
 use lib.Count.{onesIn}
@@ -8,7 +8,7 @@ use Rattle.scan.specs.Set.{zeroSet, constraint, kind}
 use Rattle.scan.specs.Names.{nameByte, allNameBytes, nameLength, nameBytes, placeOk, nameOk, nameZero, sameName, readNamed, firstRead, outputNamed, firstOutput, isUsed}
 use Rattle.scan.specs.Shape.{countTests, lengthTests, kindOk, readOk, readZero, readPlace, outputOk, outputPlace, rankOk, constraintTests, constraintZero, constraintPlace, setTests, wellFormed}
 use Rattle.scan.specs.Constraint.{readsTrue, outsTrue, isTrue, simple, combined, trueAt, safe, hasVector}
-use Rattle.scan.specs.Holds.{holding, toZero, toOne, F0, F1, unheldBy, unheld, unheldCount, startFrom, startVector}
+use Rattle.scan.specs.Holds.{holding, toZero, toOne, F0, F1, bothWays, reckoned, unheldBy, unheld, unheldCount, startFrom, startVector}
 use Rattle.scan.specs.Pass.{lowest, hasRank, yielding, yields, fires, flips, pass}
 use Rattle.scan.specs.Walk.{walkBy, walk}
 use Rattle.shape.specs.Spelling.{spelling}
@@ -16,7 +16,7 @@ use Rattle.shape.specs.Finding.{findPadded, findOf}
 use Rattle.machine.specs.Past.{readingAt, readWord}
 use Rattle.machine.specs.Machine.{stateOk, isPast, sensorOk, requestOk, scanOf}
 use Rattle.machine.specs.History.{run}
-use Rattle.verdict.specs.Judge.{endless, lacks, hasEndless, vectorAt, endlessAt, judgeWords, scratchBytes, judgeOf}
+use Rattle.verdict.specs.Judge.{endless, lacks, hasEndless, noneAt, vectorAt, endlessAt, judgeWords, scratchBytes, judgeOf}
 use Rattle.verdict.specs.FirstFailing.{fails, rejectionBy, rejection, verdictAt, firstFailing}
 use Rattle.start.specs.Start.{startOf}
 use Rattle.header.specs.Header.{rawOf, headerOf}
@@ -24,22 +24,23 @@ use Rattle.literal.specs.Literal.{narrows, withLiteral, literalsFrom}
 use Rattle.loader.specs.Load.{countsAt, nameField, kindOf, readField, readOf, readAt, readsFrom, outputOf, outputAt, outputsFrom, restAt, constraintAt, constraintsFrom, loadFrom, loadOf}
 use Rattle.decimal.specs.Decimal.{leading, decimal}
 use Rattle.text.specs.Text.{restLine, readLiteral, outputLiteral, neverLine, shownLines, spacedWords, linesText, textOf}
-use Rattle.promise.specs.Cases.{AllAnswered, starred, further, orderCases, restCases, scratchCases, scanCases, findCases, textCases}
+use Rattle.promise.specs.Clash.{judgeUnnamed}
+use Rattle.promise.specs.Cases.{AllAnswered, starred, further, orderCases, restCases, scratchCases, clashCases, scanCases, findCases, textCases}
 
 pub starred-hold : AllAnswered starred
 unfolding onesIn odd bit without meets popcount gather bitIf word some all firstFrom first zeroSet constraint kind nameByte nameLength placeOk nameOk
     nameZero sameName readNamed firstRead outputNamed firstOutput countTests lengthTests kindOk readOk readZero readPlace outputOk outputPlace rankOk
     constraintTests constraintZero constraintPlace setTests wellFormed readsTrue outsTrue isTrue simple combined trueAt safe holding toZero toOne F0
-    F1 unheldBy unheld unheldCount startFrom startVector lowest hasRank yielding yields fires flips pass walkBy walk readingAt readWord stateOk isPast
-    sensorOk requestOk scanOf run hasVector endless lacks hasEndless vectorAt endlessAt judgeWords scratchBytes judgeOf startOf
+    F1 bothWays reckoned unheldBy unheld unheldCount startFrom startVector lowest hasRank yielding yields fires flips pass walkBy walk readingAt readWord stateOk isPast
+    sensorOk requestOk scanOf run hasVector endless lacks hasEndless noneAt vectorAt endlessAt judgeWords scratchBytes judgeOf startOf
 starred-hold = refl
 
 pub further-hold : AllAnswered further
 unfolding onesIn odd bit without meets popcount gather bitIf word some all firstFrom first zeroSet constraint kind nameByte nameLength placeOk nameOk
     nameZero sameName readNamed firstRead outputNamed firstOutput countTests lengthTests kindOk readOk readZero readPlace outputOk outputPlace rankOk
     constraintTests constraintZero constraintPlace setTests wellFormed readsTrue outsTrue isTrue simple combined trueAt safe holding toZero toOne F0
-    F1 unheldBy unheld unheldCount startFrom startVector lowest hasRank yielding yields fires flips pass walkBy walk readingAt readWord stateOk isPast
-    sensorOk requestOk scanOf run hasVector endless lacks hasEndless vectorAt endlessAt judgeWords scratchBytes judgeOf startOf
+    F1 bothWays reckoned unheldBy unheld unheldCount startFrom startVector lowest hasRank yielding yields fires flips pass walkBy walk readingAt readWord stateOk isPast
+    sensorOk requestOk scanOf run hasVector endless lacks hasEndless noneAt vectorAt endlessAt judgeWords scratchBytes judgeOf startOf
     rawOf headerOf spelling nameField kindOf readField readOf readAt readsFrom outputOf outputAt outputsFrom restAt narrows withLiteral literalsFrom constraintAt
     constraintsFrom countsAt loadFrom loadOf allNameBytes isUsed
 further-hold = refl
@@ -48,8 +49,8 @@ pub orders-worked : AllAnswered orderCases
 unfolding onesIn odd bit without meets popcount gather bitIf word some all firstFrom first zeroSet constraint kind nameByte nameLength placeOk nameOk
     nameZero sameName readNamed firstRead outputNamed firstOutput countTests lengthTests kindOk readOk readZero readPlace outputOk outputPlace rankOk
     constraintTests constraintZero constraintPlace setTests wellFormed readsTrue outsTrue isTrue simple combined trueAt safe holding toZero toOne F0
-    F1 unheldBy unheld unheldCount startFrom startVector lowest hasRank yielding yields fires flips pass walkBy walk readingAt readWord stateOk isPast
-    sensorOk requestOk scanOf run hasVector endless lacks hasEndless vectorAt endlessAt judgeWords fails rejectionBy rejection verdictAt firstFailing scratchBytes judgeOf startOf
+    F1 bothWays reckoned unheldBy unheld unheldCount startFrom startVector lowest hasRank yielding yields fires flips pass walkBy walk readingAt readWord stateOk isPast
+    sensorOk requestOk scanOf run hasVector endless lacks hasEndless noneAt vectorAt endlessAt judgeWords fails rejectionBy rejection verdictAt firstFailing scratchBytes judgeOf startOf
     rawOf headerOf spelling nameField kindOf readField readOf readAt readsFrom outputOf outputAt outputsFrom restAt narrows withLiteral literalsFrom constraintAt
     constraintsFrom countsAt loadFrom loadOf allNameBytes isUsed
 orders-worked = refl
@@ -58,8 +59,8 @@ pub rests-worked : AllAnswered restCases
 unfolding onesIn odd bit without meets popcount gather bitIf word some all firstFrom first zeroSet constraint kind nameByte nameLength placeOk nameOk
     nameZero sameName readNamed firstRead outputNamed firstOutput countTests lengthTests kindOk readOk readZero readPlace outputOk outputPlace rankOk
     constraintTests constraintZero constraintPlace setTests wellFormed readsTrue outsTrue isTrue simple combined trueAt safe holding toZero toOne F0
-    F1 unheldBy unheld unheldCount startFrom startVector lowest hasRank yielding yields fires flips pass walkBy walk readingAt readWord stateOk isPast
-    sensorOk requestOk scanOf run hasVector endless lacks hasEndless vectorAt endlessAt judgeWords scratchBytes judgeOf startOf
+    F1 bothWays reckoned unheldBy unheld unheldCount startFrom startVector lowest hasRank yielding yields fires flips pass walkBy walk readingAt readWord stateOk isPast
+    sensorOk requestOk scanOf run hasVector endless lacks hasEndless noneAt vectorAt endlessAt judgeWords scratchBytes judgeOf startOf
     rawOf headerOf spelling nameField kindOf readField readOf readAt readsFrom outputOf outputAt outputsFrom restAt narrows withLiteral literalsFrom constraintAt
     constraintsFrom countsAt loadFrom loadOf allNameBytes isUsed
 rests-worked = refl
@@ -68,15 +69,23 @@ pub scratch-worked : AllAnswered scratchCases
 unfolding onesIn odd bit without meets popcount gather bitIf word some all firstFrom first zeroSet constraint kind nameByte nameLength placeOk nameOk
     nameZero sameName readNamed firstRead outputNamed firstOutput countTests lengthTests kindOk readOk readZero readPlace outputOk outputPlace rankOk
     constraintTests constraintZero constraintPlace setTests wellFormed readsTrue outsTrue isTrue simple combined trueAt safe holding toZero toOne F0
-    F1 unheldBy unheld unheldCount startFrom startVector lowest hasRank yielding yields fires flips pass walkBy walk readingAt readWord stateOk isPast
-    sensorOk requestOk scanOf run hasVector endless lacks hasEndless vectorAt endlessAt judgeWords scratchBytes judgeOf startOf
+    F1 bothWays reckoned unheldBy unheld unheldCount startFrom startVector lowest hasRank yielding yields fires flips pass walkBy walk readingAt readWord stateOk isPast
+    sensorOk requestOk scanOf run hasVector endless lacks hasEndless noneAt vectorAt endlessAt judgeWords scratchBytes judgeOf startOf
 scratch-worked = refl
+
+pub clashes-worked : AllAnswered clashCases
+unfolding onesIn odd bit without meets popcount gather bitIf word some all firstFrom first zeroSet constraint kind nameByte nameLength placeOk nameOk
+    nameZero sameName readNamed firstRead outputNamed firstOutput countTests lengthTests kindOk readOk readZero readPlace outputOk outputPlace rankOk
+    constraintTests constraintZero constraintPlace setTests wellFormed readsTrue outsTrue isTrue simple combined trueAt safe holding toZero toOne F0
+    F1 bothWays reckoned unheldBy unheld unheldCount startFrom startVector lowest hasRank yielding yields fires flips pass walkBy walk readingAt readWord stateOk isPast
+    sensorOk requestOk scanOf run hasVector endless lacks hasEndless noneAt vectorAt endlessAt judgeWords fails rejectionBy rejection verdictAt firstFailing scratchBytes judgeOf judgeUnnamed startOf
+clashes-worked = refl
 
 pub scans-worked : AllAnswered scanCases
 unfolding onesIn odd bit without meets popcount gather bitIf word some all firstFrom first zeroSet constraint kind nameByte allNameBytes nameLength
     placeOk nameOk nameZero sameName readNamed firstRead outputNamed firstOutput countTests lengthTests kindOk readOk readZero readPlace outputOk
     outputPlace rankOk constraintTests constraintZero constraintPlace setTests wellFormed readsTrue outsTrue isTrue simple combined trueAt safe
-    holding toZero toOne F0 F1 unheldBy unheld unheldCount startFrom startVector lowest hasRank yielding yields fires flips pass walkBy walk readingAt
+    holding toZero toOne F0 F1 bothWays reckoned unheldBy unheld unheldCount startFrom startVector lowest hasRank yielding yields fires flips pass walkBy walk readingAt
     readWord stateOk isPast sensorOk requestOk scanOf run
 scans-worked = refl
 

@@ -10,7 +10,7 @@ use Rattle.scan.specs.Set.{zeroSet}
 use Rattle.scan.specs.Shape.{wellFormed}
 use Rattle.scan.specs.Constraint.{HasSafe}
 use Rattle.verdict.specs.declared.verdict.Verdict.{Verdict}
-use Rattle.verdict.specs.declared.verdict.Verdict.the-variants.{Accepted, BadSet, ShortScratch, NoVector, NoEnd}
+use Rattle.verdict.specs.declared.verdict.Verdict.the-variants.{Accepted, BadSet, ShortScratch, NoVector, Clash, NoEnd}
 use Rattle.verdict.specs.Judge.{scratchBytes, judgeOf}
 use Rattle.start.specs.Start.{startState, startOf}
 use Rattle.verdict.specs.Told.{verdictTold}
@@ -22,6 +22,7 @@ use Rattle.promise.specs.Verdicts.{HasVector, GoodWord, BadWord, FirstNo
 use Rattle.promise.proofs.Numbers.{apart}
 use Rattle.promise.proofs.ConstraintMeanings.{safe-iff}
 use Rattle.promise.proofs.PassMeanings.{ends-iff}
+use Rattle.promise.proofs.Clashes.{lowest-iff, none-iff}
 
 -- ---- a verdict is told by its number and values
 
@@ -30,6 +31,7 @@ told-accepted Accepted e = refl
 told-accepted BadSet e = apart 20 0 [] [] refl e
 told-accepted ShortScratch e = apart 21 0 [] [] refl e
 told-accepted (NoVector w) e = apart 22 0 (w ∷ []) [] refl e
+told-accepted (Clash w k) e = apart 58 0 (w ∷ k ∷ []) [] refl e
 told-accepted (NoEnd w g) e = apart 23 0 (w ∷ g ∷ []) [] refl e
 
 pub told-word : (v : Verdict) (w : ℕ) → verdictTold v ≡ 22 ∷ w ∷ [] → v ≡ NoVector w
@@ -37,13 +39,23 @@ told-word Accepted w e = apart 0 22 [] (w ∷ []) refl e
 told-word BadSet w e = apart 20 22 [] (w ∷ []) refl e
 told-word ShortScratch w e = apart 21 22 [] (w ∷ []) refl e
 told-word (NoVector u) w e = let f : u ≡ w = cc in ap NoVector f
+told-word (Clash u k) w e = apart 58 22 (u ∷ k ∷ []) (w ∷ []) refl e
 told-word (NoEnd u g) w e = apart 23 22 (u ∷ g ∷ []) (w ∷ []) refl e
+
+pub told-clash : (v : Verdict) (w k : ℕ) → verdictTold v ≡ 58 ∷ w ∷ k ∷ [] → v ≡ Clash w k
+told-clash Accepted w k e = apart 0 58 [] (w ∷ k ∷ []) refl e
+told-clash BadSet w k e = apart 20 58 [] (w ∷ k ∷ []) refl e
+told-clash ShortScratch w k e = apart 21 58 [] (w ∷ k ∷ []) refl e
+told-clash (NoVector u) w k e = apart 22 58 (u ∷ []) (w ∷ k ∷ []) refl e
+told-clash (Clash u j) w k e = cc
+told-clash (NoEnd u g) w k e = apart 23 58 (u ∷ g ∷ []) (w ∷ k ∷ []) refl e
 
 pub told-request : (v : Verdict) (w g : ℕ) → verdictTold v ≡ 23 ∷ w ∷ g ∷ [] → v ≡ NoEnd w g
 told-request Accepted w g e = apart 0 23 [] (w ∷ g ∷ []) refl e
 told-request BadSet w g e = apart 20 23 [] (w ∷ g ∷ []) refl e
 told-request ShortScratch w g e = apart 21 23 [] (w ∷ g ∷ []) refl e
 told-request (NoVector u) w g e = apart 22 23 (u ∷ []) (w ∷ g ∷ []) refl e
+told-request (Clash u k) w g e = apart 58 23 (u ∷ k ∷ []) (w ∷ g ∷ []) refl e
 told-request (NoEnd u h) w g e = cc
 
 -- ---- the verdict
@@ -108,8 +120,12 @@ module _ (s : Set) (room : ℕ) (ok : wellFormed s ≡ true) (enough : scratchBy
       λ m. ap verdictTold (is Accepted (λ w h. good-iff s ok w .1 (m w h))),
     );
     names-word = λ w. (
-      λ e. without-iff s ok w .0 (means (NoVector w) (told-word (judgeOf s room) w e)),
-      λ m. ap verdictTold (is (NoVector w) (without-iff s ok w .1 m)),
+      λ e. let m = means (NoVector w) (told-word (judgeOf s room) w e) in (without-iff s ok w .0 (m .0), none-iff s ok w .0 (m .1)),
+      λ m. ap verdictTold (is (NoVector w) (without-iff s ok w .1 (m .0), none-iff s ok w .1 (m .1))),
+    );
+    names-clash = λ w k. (
+      λ e. let m = means (Clash w k) (told-clash (judgeOf s room) w k e) in (without-iff s ok w .0 (m .0), lowest-iff s ok w k .0 (m .1)),
+      λ m. ap verdictTold (is (Clash w k) (without-iff s ok w .1 (m .0), lowest-iff s ok w k .1 (m .1))),
     );
     names-request = λ w g. (
       λ e. endless-iff s ok w g .0 (means (NoEnd w g) (told-request (judgeOf s room) w g e)),
@@ -125,6 +141,7 @@ start-zero s Accepted n = absurd (n refl)
 start-zero s BadSet n = refl
 start-zero s ShortScratch n = refl
 start-zero s (NoVector w) n = refl
+start-zero s (Clash w k) n = refl
 start-zero s (NoEnd w g) n = refl
 
 pub exact-start : (s : Set) (room : ℕ) → ExactStart s room

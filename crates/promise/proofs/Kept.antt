@@ -50,6 +50,8 @@ use Rattle.promise.proofs.LinesSay.{printed-says}
 use Rattle.promise.proofs.OneText.{one-set, one-text}
 use Rattle.promise.proofs.TextRefusals.{text-refusals}
 use Rattle.promise.proofs.ExactVerdicts.{told-accepted, exact-verdict, exact-start}
+use Rattle.promise.proofs.Clashes.{reckoning}
+use Rattle.promise.proofs.ClashesNamed.{clash-named}
 use Rattle.promise.proofs.OneGroups.{one-group}
 use Rattle.promise.proofs.OneBits.{scratch-size, one-bit, by-eights}
 use Rattle.promise.proofs.ScanLists.{sends-mean, right-scans}
@@ -140,6 +142,7 @@ demand-3 = record {
   verdict = exact-verdict;
   one-group = λ s room ok enough. one-group s ok room enough;
   one-bit = one-bit;
+  clash-named = clash-named;
   start = exact-start;
   scans = λ s room e calls. right-scans s room (told-accepted (judgeOf s room) e) calls;
 }
@@ -167,6 +170,7 @@ promise = record {
   power-up = power-up;
   rest-word = rest-word;
   by-active = λ s w ok. by-active s ok w;
+  reckoning = λ s w ok. reckoning s ok w;
   by-eights = λ s w ok. by-eights s ok w;
   name-bytes = name-bytes-iff;
   files = file-says;

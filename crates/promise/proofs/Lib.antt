@@ -12,6 +12,7 @@ pub mod EndFields
 pub mod RestTests
 pub mod ColumnLaws
 pub mod FileRefusals
+pub mod Clashes
 pub mod SetRefusals
 pub mod ScanRefusals
 pub mod ReadMeanings
@@ -23,6 +24,7 @@ pub mod PlaceMeanings
 pub mod LoneRankMeanings
 pub mod RestWords
 pub mod ExactVerdicts
+pub mod ClashesNamed
 pub mod OneGroups
 pub mod OneBits
 pub mod ScanLists

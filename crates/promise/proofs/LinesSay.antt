@@ -17,15 +17,16 @@ use Rattle.loader.specs.declared.loader.LoadAnswer.the-variants.{Loaded, Refuse
 use Rattle.loader.specs.Load.{loadOf}
 use Rattle.loader.specs.Told.{loadTold}
 use Rattle.verdict.specs.declared.verdict.Verdict.{Verdict}
-use Rattle.verdict.specs.declared.verdict.Verdict.the-variants.{Accepted, BadSet, ShortScratch, NoVector as WordNoVector, NoEnd as WordNoEnd}
+use Rattle.verdict.specs.declared.verdict.Verdict.the-variants.{Accepted, BadSet, ShortScratch, NoVector as WordNoVector, Clash as WordClash, NoEnd as WordNoEnd}
 use Rattle.verdict.specs.Judge.{judgeOf}
 use Rattle.verdict.specs.Meaning.{Means}
 use Rattle.verdict.specs.Told.{verdictTold}
 use Rattle.line.specs.declared.printer.Line.{Line}
-use Rattle.line.specs.declared.printer.Line.the-variants.{Accept, Load, NoVector, NoEnd}
+use Rattle.line.specs.declared.printer.Line.the-variants.{Accept, Load, NoVector, Clash, NoEnd}
 use Rattle.line.specs.Line.{spaced, lineBytes, lineAnswer, bufferAfter, verdictLine, answerLine, lineOf}
 use Rattle.line.proofs.LoadedSets.{loaded-judged}
-use Rattle.promise.specs.Lines.{IsDecimal, NumbersThenEnd, IsLine, acceptWord, loadWord, noVectorWord, noEndWord, programScratch, LineSays}
+use Rattle.promise.proofs.ExactVerdicts.{told-clash}
+use Rattle.promise.specs.Lines.{IsDecimal, NumbersThenEnd, IsLine, acceptWord, loadWord, noVectorWord, clashWord, noEndWord, programScratch, LineSays}
 
 -- ---- numbers
 
@@ -70,6 +71,7 @@ module _ (s : Set) (v : Verdict) where
       go BadSet h = absurd (omega (arith, ap (λ (l : List ℕ). getD l 0 0) h))
       go ShortScratch h = absurd (omega (arith, ap (λ (l : List ℕ). getD l 0 0) h))
       go (WordNoVector w) h = absurd (omega (arith, ap (λ (l : List ℕ). getD l 0 0) h))
+      go (WordClash w k) h = absurd (omega (arith, ap (λ (l : List ℕ). getD l 0 0) h))
       go (WordNoEnd w g) h = absurd (omega (arith, ap (λ (l : List ℕ). getD l 0 0) h))
 
   verdict-no-vector : (w : ℕ) → verdictTold v ≡ 22 ∷ w ∷ [] → IsLine noVectorWord (w ∷ []) (lineBytes (verdictLine s v))
@@ -81,7 +83,12 @@ module _ (s : Set) (v : Verdict) where
       go BadSet h = absurd (omega (arith, ap (λ (l : List ℕ). getD l 0 0) h))
       go ShortScratch h = absurd (omega (arith, ap (λ (l : List ℕ). getD l 0 0) h))
       go (WordNoVector u) h = subst (λ (x : ℕ). IsLine noVectorWord (x ∷ []) (lineBytes (NoVector u))) (ap (λ (l : List ℕ). getD l 1 0) h) (one-line noVectorWord u)
+      go (WordClash u k) h = absurd (omega (arith, ap (λ (l : List ℕ). getD l 0 0) h))
       go (WordNoEnd u g) h = absurd (omega (arith, ap (λ (l : List ℕ). getD l 0 0) h))
+
+  verdict-clash : (w k : ℕ) → verdictTold v ≡ 58 ∷ w ∷ k ∷ [] → IsLine clashWord (w ∷ k ∷ []) (lineBytes (verdictLine s v))
+  unfolding lineBytes
+  verdict-clash w k e = subst (λ (x : Verdict). IsLine clashWord (w ∷ k ∷ []) (lineBytes (verdictLine s x))) (sym (told-clash v w k e)) (two-line clashWord w k)
 
   verdict-no-end : (w g : ℕ) → verdictTold v ≡ 23 ∷ w ∷ g ∷ [] → IsLine noEndWord (w ∷ g ∷ []) (lineBytes (verdictLine s v))
   unfolding lineBytes
@@ -92,6 +99,7 @@ module _ (s : Set) (v : Verdict) where
       go BadSet h = absurd (omega (arith, ap (λ (l : List ℕ). getD l 0 0) h))
       go ShortScratch h = absurd (omega (arith, ap (λ (l : List ℕ). getD l 0 0) h))
       go (WordNoVector u) h = absurd (omega (arith, ap (λ (l : List ℕ). getD l 0 0) h))
+      go (WordClash u k) h = absurd (omega (arith, ap (λ (l : List ℕ). getD l 0 0) h))
       go (WordNoEnd u r) h =
           subst (λ (x : ℕ). IsLine noEndWord (x ∷ g ∷ []) (lineBytes (NoEnd u r))) (ap (λ (l : List ℕ). getD l 1 0) h)
           (subst (λ (x : ℕ). IsLine noEndWord (u ∷ x ∷ []) (lineBytes (NoEnd u r))) (ap (λ (l : List ℕ). getD l 2 0) h) (two-line noEndWord u r))
@@ -108,12 +116,14 @@ refused-line s room (Refused x y) c o h =
     subst (λ (k : ℕ). IsLine loadWord (k ∷ o ∷ []) (lineBytes (Load x y))) (ap (λ (l : List ℕ). getD l 0 0) h)
     (subst (λ (k : ℕ). IsLine loadWord (x ∷ k ∷ []) (lineBytes (Load x y))) (ap (λ (l : List ℕ). getD l 1 0) h) (two-line loadWord x y))
 
--- a verdict that means something is one of three
+-- a verdict that means something is one of four
 meaning : (s : Set) (v : Verdict) → Means s v
-    → (verdictTold v ≡ 0 ∷ []) ⊎ ((w : ℕ) × (verdictTold v ≡ 22 ∷ w ∷ [])) ⊎ ((w : ℕ) × (g : ℕ) × (verdictTold v ≡ 23 ∷ w ∷ g ∷ []))
+    → (verdictTold v ≡ 0 ∷ []) ⊎ ((w : ℕ) × (verdictTold v ≡ 22 ∷ w ∷ [])) ⊎ ((w : ℕ) × (k : ℕ) × (verdictTold v ≡ 58 ∷ w ∷ k ∷ []))
+    ⊎ ((w : ℕ) × (g : ℕ) × (verdictTold v ≡ 23 ∷ w ∷ g ∷ []))
 meaning s Accepted m = inl refl
 meaning s (WordNoVector w) m = inr (inl (w, refl))
-meaning s (WordNoEnd w g) m = inr (inr (w, g, refl))
+meaning s (WordClash w k) m = inr (inr (inl (w, k, refl)))
+meaning s (WordNoEnd w g) m = inr (inr (inr (w, g, refl)))
 meaning s BadSet m = absurd m
 meaning s ShortScratch m = absurd m
 
@@ -143,6 +153,8 @@ line-short (Accept r n m) =
 line-short (Load c o) =
     omega (arith, length-append (loadWord ++ spaced c ++ spaced o) (0x0A ∷ []), length-append (loadWord ++ spaced c) (spaced o), length-append loadWord (spaced c), spaced-short c, spaced-short o)
 line-short (NoVector w) = omega (arith, length-append (noVectorWord ++ spaced w) (0x0A ∷ []), length-append noVectorWord (spaced w), spaced-short w)
+line-short (Clash w k) =
+    omega (arith, length-append (clashWord ++ spaced w ++ spaced k) (0x0A ∷ []), length-append (clashWord ++ spaced w) (spaced k), length-append clashWord (spaced w), spaced-short w, spaced-short k)
 line-short (NoEnd w g) =
     omega (arith, length-append (noEndWord ++ spaced w ++ spaced g) (0x0A ∷ []), length-append (noEndWord ++ spaced w) (spaced g), length-append noEndWord (spaced w), spaced-short w, spaced-short g)
 
@@ -166,6 +178,7 @@ printed-says file =
       refused = refused-line s programScratch a;
       accepted = λ h e. subst (λ (l : Line). IsLine acceptWord (s .r ∷ s .n ∷ s .m ∷ []) (lineBytes l)) (sym (loaded-line s programScratch a h)) (verdict-accepted s v e);
       no-vector = λ w h e. subst (λ (l : Line). IsLine noVectorWord (w ∷ []) (lineBytes l)) (sym (loaded-line s programScratch a h)) (verdict-no-vector s v w e);
+      clash = λ w k h e. subst (λ (l : Line). IsLine clashWord (w ∷ k ∷ []) (lineBytes l)) (sym (loaded-line s programScratch a h)) (verdict-clash s v w k e);
       no-end = λ w g h e. subst (λ (l : Line). IsLine noEndWord (w ∷ g ∷ []) (lineBytes l)) (sym (loaded-line s programScratch a h)) (verdict-no-end s v w g e);
       one = λ bytes h. meaning s v (loaded-judged file programScratch bytes (omega arith) (was-loaded a h));
       whole = line-whole (lineOf file programScratch);

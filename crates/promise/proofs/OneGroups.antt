@@ -3,7 +3,7 @@
 use mathlib.Core.Path.{_≡_, refl, sym, ap, _∙_, subst}
 use mathlib.Core.Bool.{true}
 use mathlib.Core.List.{[], _∷_}
-use mathlib.Core.Logic.{_↔_}
+use mathlib.Core.Logic.{_↔_, inl, inr}
 use Prim.Native.Nat.{ℕ, _^_, _≤_, _<_}
 use native.Mathlib.Decide.{decLt}
 use native.Mathlib.Omega.{arith}
@@ -11,7 +11,7 @@ use Rattle.scan.specs.declared.set.Set.{Set}
 use Rattle.scan.specs.Shape.{wellFormed}
 use Rattle.scan.specs.Constraint.{HasSafe}
 use Rattle.verdict.specs.declared.verdict.Verdict.{Verdict}
-use Rattle.verdict.specs.declared.verdict.Verdict.the-variants.{Accepted, BadSet, ShortScratch, NoVector, NoEnd}
+use Rattle.verdict.specs.declared.verdict.Verdict.the-variants.{Accepted, BadSet, ShortScratch, NoVector, Clash, NoEnd}
 use Rattle.verdict.specs.Judge.{scratchBytes, judgeWords, judgeOf}
 use Rattle.verdict.specs.FirstFailing.{firstFailing}
 use Rattle.verdict.specs.Told.{verdictTold}
@@ -23,7 +23,8 @@ use Rattle.verdict.proofs.MeaningLaws.{means-words}
 use Rattle.verdict.proofs.FailingStays.{still-without, still-endless}
 use Rattle.promise.specs.OneGroup.{FailsNoVector, FailsNoEnd, OldOrder, InGroup, HigherNoVector, OneGroup}
 use Rattle.promise.proofs.PassMeanings.{ends-iff}
-use Rattle.promise.proofs.ExactVerdicts.{told-accepted, told-word, told-request, vector-iff, good-iff, without-iff, means}
+use Rattle.promise.proofs.Clashes.{lowest-iff, none-iff}
+use Rattle.promise.proofs.ExactVerdicts.{told-accepted, told-word, told-clash, told-request, vector-iff, good-iff, without-iff, means}
 
 module _ (s : Set) (ok : wellFormed s ≡ true) where
   -- ---- document 01's order
@@ -64,8 +65,12 @@ module _ (s : Set) (ok : wellFormed s ≡ true) where
       λ m. ap verdictTold (failing-of s ok Accepted (λ w h. good-iff s ok w .1 (m w h))),
     );
     names-word = λ w. (
-      λ e. fails-without-iff w .0 (failing-is (NoVector w) (told-word (firstFailing s) w e)),
-      λ m. ap verdictTold (failing-of s ok (NoVector w) (fails-without-iff w .1 m)),
+      λ e. let m = failing-is (NoVector w) (told-word (firstFailing s) w e) in (fails-without-iff w .0 (m .0), none-iff s ok w .0 (m .1)),
+      λ m. ap verdictTold (failing-of s ok (NoVector w) (fails-without-iff w .1 (m .0), none-iff s ok w .1 (m .1))),
+    );
+    names-clash = λ w k. (
+      λ e. let m = failing-is (Clash w k) (told-clash (firstFailing s) w k e) in (fails-without-iff w .0 (m .0), lowest-iff s ok w k .0 (m .1)),
+      λ m. ap verdictTold (failing-of s ok (Clash w k) (fails-without-iff w .1 (m .0), lowest-iff s ok w k .1 (m .1))),
     );
     names-request = λ w g. (
       λ e. fails-endless-iff w g .0 (failing-is (NoEnd w g) (told-request (firstFailing s) w g e)),
@@ -93,7 +98,10 @@ module _ (s : Set) (ok : wellFormed s ≡ true) where
 
         go : (v : Verdict) → Means s v → judgeOf s room ≡ v → HigherNoVector s room w
         go Accepted m e = absurd (none (m (i .1 .0) (i .1 .2) .vector))
-        go (NoVector u) m e = (u, behind w g u (fails-endless-iff w g .1 (i .0)) (m .none), without-iff s ok u .0 m, ap verdictTold e)
+        go (NoVector u) m e =
+            (u, behind w g u (fails-endless-iff w g .1 (i .0)) (m .0 .none), without-iff s ok u .0 (m .0), inl (ap verdictTold e, none-iff s ok u .0 (m .1)))
+        go (Clash u k) m e =
+            (u, behind w g u (fails-endless-iff w g .1 (i .0)) (m .0 .none), without-iff s ok u .0 (m .0), inr (k, ap verdictTold e, lowest-iff s ok u k .0 (m .1)))
         go (NoEnd u k) m e = absurd (none (m .vectors (i .1 .0) (i .1 .2)))
         go BadSet m e = absurd m
         go ShortScratch m e = absurd m
@@ -103,7 +111,8 @@ module _ (s : Set) (ok : wellFormed s ≡ true) where
       where
         go : (v : Verdict) → MeansFailing s v → judgeWords s ≡ v
         go Accepted m = means-words s ok Accepted m
-        go (NoVector w) m = still-without s ok w m
+        go (NoVector w) m = means-words s ok (NoVector w) (still-without s ok w (m .0), m .1)
+        go (Clash w k) m = means-words s ok (Clash w k) (still-without s ok w (m .0), m .1)
         go (NoEnd w g) m = still-endless s ok w g m (λ u h. all u h (vector-or-none s u))
           where
             all : (u : ℕ) → u < 2 ^ s .r → Dec (HasSafe s u) → HasSafe s u

@@ -7,20 +7,18 @@ use Prim.Native.Nat.{ℕ, _<_}
 use Rattle.words.specs.Word.{bit}
 use Rattle.words.proofs.BitLaws.{bit-below}
 use Rattle.scan.specs.declared.set.Set.{Set}
-use Rattle.scan.specs.declared.holds.Holds.{Holds}
 use Rattle.scan.specs.Set.{constraint}
 use Rattle.scan.specs.Shape.{wellFormed}
 use Rattle.scan.specs.Active.{activeOf}
-use Rattle.scan.specs.way.Holds.{holdsOf}
 use Rattle.scan.specs.way.Table.{tableOf}
 use Rattle.scan.proofs.ShapeLaws.{masks}
 use Rattle.scan.proofs.ActiveLaws.{active-bit, active-lt, active-is}
 use Rattle.scan.proofs.TableLaws.{table-holds, table-safe, table-walk, same-safe, same-walk}
-use Rattle.promise.specs.Terms.{Bit, ReadsTrue, HeldOff, HeldOn}
+use Rattle.promise.specs.Terms.{Bit, ReadsTrue}
 use Rattle.promise.specs.OneWord.{ByActive}
 use Rattle.promise.proofs.Bits.{bit-set, set-bit}
 use Rattle.promise.proofs.ConstraintMeanings.{reads-iff}
-use Rattle.promise.proofs.HoldMeanings.{f0-iff, f1-iff}
+use Rattle.promise.proofs.Clashes.{answer-right}
 
 module _ (s : Set) (ok : wellFormed s ≡ true) (w : ℕ) where
   mask-iff : (i : ℕ) → Bit i (activeOf s w) ↔ ((i < s .m) × ReadsTrue (constraint s i) w)
@@ -35,21 +33,11 @@ module _ (s : Set) (ok : wellFormed s ≡ true) (w : ℕ) where
       back : (i < s .m) × ReadsTrue (constraint s i) w → Bit i (activeOf s w)
       back p = bit-set i (activeOf s w) (active-bit s w i (p .0) ∙ reads-iff (s .r) (s .n) (constraint s i) (masks s ok i (p .0)) w .1 (p .1))
 
-  -- the holds of the table are the word's
-  holds-iff : (mask : Holds → ℕ) (P : Type 0) (k : ℕ) → (bit k (mask (holdsOf s w)) ≡ true) ↔ P
-      → Bit k (mask (tableOf s (activeOf s w) .holds)) ↔ P
-  holds-iff mask P k iff =
-      let e = ap (λ (h : Holds). bit k (mask h)) (table-holds s w ok) in (
-        λ b. iff .0 (sym e ∙ set-bit k (mask (tableOf s (activeOf s w) .holds)) b),
-        λ p. bit-set k (mask (tableOf s (activeOf s w) .holds)) (e ∙ iff .1 p),
-      )
-
   pub by-active : ByActive s w
   by-active = record {
     mask = mask-iff;
     made = active-is s ok w;
-    held-off = λ k. holds-iff (λ h. h .f0) (HeldOff s w k) k (f0-iff s ok w k);
-    held-on = λ k. holds-iff (λ h. h .f1) (HeldOn s w k) k (f1-iff s ok w k);
+    holds = answer-right s ok w (tableOf s (activeOf s w) .holds) (table-holds s w ok);
     judges = table-safe s w ok;
     walks = table-walk s w ok;
     alike = λ u e v. (same-safe s ok u w e v, same-walk s ok u w e v);

@@ -26,6 +26,7 @@ use Rattle.promise.specs.Promise.{ScanRefusals}
 use Rattle.promise.proofs.Numbers.{apart, fails-not}
 use Rattle.promise.proofs.Bits.{bit-set, set-bit}
 use Rattle.promise.proofs.PassMeanings.{ends-iff}
+use Rattle.promise.proofs.Clashes.{both-unsafe}
 
 pub state-iff : (st : State) → (stateOk st ≡ true) ↔ StateAllowed st
 state-iff st = (state-parts st, λ a. state-passes st (a .0) (a .1) (a .2))
@@ -119,6 +120,7 @@ module _ (st : State) (present request : ℕ) where
     bad-sensor = sensor-case went;
     bad-request = request-case went;
     unsafe = walk-case went;
+    clash = λ a b c k both. walk-case went .1 (a, b, c, λ e. both-unsafe (st .set) (a .0) (wordOf st present) k both _ (e .1));
     sends = sent-case went;
     kept = λ n. refused-keeps-state st present request (λ v k e. n v k (ap scanTold e));
   }

@@ -12,7 +12,7 @@ use Rattle.words.proofs.BoolLaws.{by-test, clash}
 use Rattle.scan.specs.declared.set.Set.{Set}
 use Rattle.scan.specs.Shape.{wellFormed}
 use Rattle.verdict.specs.declared.verdict.Verdict.{Verdict}
-use Rattle.verdict.specs.declared.verdict.Verdict.the-variants.{Accepted, BadSet as SetRejected, ShortScratch, NoVector, NoEnd}
+use Rattle.verdict.specs.declared.verdict.Verdict.the-variants.{Accepted, BadSet as SetRejected, ShortScratch, NoVector, Clash, NoEnd}
 use Rattle.verdict.specs.Judge.{scratchBytes, judgeOf}
 use Rattle.verdict.specs.Told.{verdictTold}
 use Rattle.verdict.specs.Meaning.{Means}
@@ -36,6 +36,7 @@ module _ (s : Set) (room : ℕ) where
       go : (v : Verdict) → Means s v → (verdictTold v ≢ 20 ∷ []) × (verdictTold v ≢ 21 ∷ [])
       go Accepted m = (apart 0 20 [] [] refl, apart 0 21 [] [] refl)
       go (NoVector w) m = (apart 22 20 (w ∷ []) [] refl, apart 22 21 (w ∷ []) [] refl)
+      go (Clash w k) m = (apart 58 20 (w ∷ k ∷ []) [] refl, apart 58 21 (w ∷ k ∷ []) [] refl)
       go (NoEnd w g) m = (apart 23 20 (w ∷ g ∷ []) [] refl, apart 23 21 (w ∷ g ∷ []) [] refl)
       go SetRejected m = absurd m
       go ShortScratch m = absurd m

@@ -1,5 +1,5 @@
 -- Worked cases: the starred ones of document 01's "Tried by hand", the edge case as change request K2 has it, those for what they leave open, some of
--- them from the bytes of a file, and those of change requests K5, K6 and K8.
+-- them from the bytes of a file, and those of change requests K5, K6, K8 and K10.
 -- Assumes nothing.
 use Prim.Native.Nat.{ℕ, _^_}
 use mathlib.Core.Path.{_≡_}
@@ -13,12 +13,13 @@ use Rattle.scan.specs.declared.set.Constraint.{Constraint}
 use Rattle.scan.specs.declared.set.Set.{Set}
 use Rattle.scan.specs.declared.set.State.{State}
 use Rattle.scan.specs.Set.{zeroSet, withRest, stateOf, freshState}
-use Rattle.scan.specs.Holds.{F0, F1, unheldCount}
+use Rattle.scan.specs.Holds.{F0, F1, holdsOf, unheldCount}
+use Rattle.scan.specs.Told.{holdsTold}
 use Rattle.shape.specs.Finding.{findOf}
 use Rattle.shape.specs.Told.{findTold}
 use Rattle.machine.specs.History.{Call, run}
 use Rattle.machine.specs.Told.{scanTold}
-use Rattle.scan.specs.Samples.{name7, name07, name007, setP, P, sensorS, nameA, nameB, readOf, setOf, product, clashing, endless, equalRanks, twoPairs, risingEdge, forcedOn, afterB, threePasses}
+use Rattle.scan.specs.Samples.{name7, name07, name007, setP, P, sensorS, nameA, nameB, nameC, readOf, setOf, product, clashing, endless, equalRanks, twoPairs, risingEdge, forcedOn, afterB, threePasses}
 use Rattle.verdict.specs.Judge.{scratchBytes, judgeOf}
 use Rattle.verdict.specs.FirstFailing.{firstFailing}
 use Rattle.start.specs.Start.{startOf}
@@ -27,6 +28,7 @@ use Rattle.loader.specs.Load.{loadOf}
 use Rattle.text.specs.Text.{textOf}
 use Rattle.loader.specs.Told.{loadTold}
 use Rattle.setfile.specs.SampleFile.{fileP}
+use Rattle.promise.specs.Clash.{judgeUnnamed}
 
 -- a case: what is done, and what is answered, by document 01's numbers
 pub data Case : Type 0 where
@@ -38,6 +40,10 @@ pub data Case : Type 0 where
   judged : Set → ℕ → List ℕ → Case
   -- the verdict in document 01's order, and then the verdict and the start, with scratch enough, say so
   reordered : Set → List ℕ → List ℕ → Case
+  -- the verdict that does not name a clash, and then the verdict and the start, with scratch enough, say so
+  named : Set → List ℕ → List ℕ → Case
+  -- the reckoning of holds at a read word answers so
+  reckons : Set → ℕ → List ℕ → Case
   -- f at a read word
   free : Set → ℕ → ℕ → Case
   -- at the read word w output k is held
@@ -67,6 +73,8 @@ answered (scans s calls told) = started s calls
 answered (scansOf st calls told) = map scanTold (run st calls)
 answered (judged s room told) = verdictTold (judgeOf s room) ∷ verdictTold (startOf s room .verdict) ∷ []
 answered (reordered s was told) = verdictTold (firstFailing s) ∷ verdictTold (judgeOf s (enough s)) ∷ verdictTold (startOf s (enough s) .verdict) ∷ []
+answered (named s was told) = verdictTold (judgeUnnamed s (enough s)) ∷ verdictTold (judgeOf s (enough s)) ∷ verdictTold (startOf s (enough s) .verdict) ∷ []
+answered (reckons s w told) = holdsTold (holdsOf s w) ∷ []
 answered (free s w f) = (unheldCount s w ∷ []) ∷ []
 answered (held s w k) = (cond (bit k (F0 s w) || bit k (F1 s w)) 1 0 ∷ []) ∷ []
 answered (finds s bytes told) = findTold (findOf s bytes) ∷ []
@@ -81,6 +89,8 @@ expected (scans s calls told) = (0 ∷ []) ∷ told
 expected (scansOf st calls told) = told
 expected (judged s room told) = told ∷ told ∷ []
 expected (reordered s was told) = was ∷ told ∷ told ∷ []
+expected (named s was told) = was ∷ told ∷ told ∷ []
+expected (reckons s w told) = told ∷ []
 expected (free s w f) = (f ∷ []) ∷ []
 expected (held s w k) = (1 ∷ []) ∷ []
 expected (finds s bytes told) = told ∷ []
@@ -117,8 +127,8 @@ starred =
     ∷ scans (setP 1 0) (call 0 1 ∷ call 1 1 ∷ []) (sent 3 1 ∷ sent 0 1 ∷ [])
     ∷ free (setP 1 0) 1 1
     ∷ held (setP 1 0) 1 1
-    -- "s and not A", "s and A": 22 at word 1
-    ∷ judged clashing (enough clashing) (22 ∷ 1 ∷ [])
+    -- "s and not A", "s and A": 58 at word 1, output 0 (change request K10: the output is named; document 01 had 22)
+    ∷ judged clashing (enough clashing) (58 ∷ 1 ∷ 0 ∷ [])
     -- no sensors; "A and not B", "A and B", B of rank 0 and A of rank 1 in both: 23 at word 0, request 1
     ∷ judged endless (enough endless) (23 ∷ 0 ∷ 1 ∷ [])
     -- "A and B", equal ranks: request 3 sends 0, 1 pass
@@ -181,7 +191,7 @@ further =
     ∷ judged P 0 (no 21)
     ∷ judged P 1 (no 0)
     -- the first of two words that fail
-    ∷ judged clashingLater 1 (22 ∷ 2 ∷ [])
+    ∷ judged clashingLater 1 (58 ∷ 2 ∷ 0 ∷ [])
     -- F1 holds A to 1 in the start vector
     ∷ scans forcedOn (call 1 0 ∷ call 0 0 ∷ []) (sent 1 0 ∷ sent 0 0 ∷ [])
     -- the past of a refused scan is not read: neither its sensor word, nor a vector
@@ -243,13 +253,13 @@ abbrev pub orderCases : List Case
 orderCases =
     -- an endless walk at word 0, no vector at word 1; from the bytes of a file, and by a pair that forbids A both ways
     reordered (loadOf fileOfOrder .set) (23 ∷ 0 ∷ 1 ∷ []) (22 ∷ 1 ∷ [])
-    ∷ reordered (setOfAB (sensorS ∷ []) (circling 0 0 ++ forbidding 1 0)) (23 ∷ 0 ∷ 1 ∷ []) (22 ∷ 1 ∷ [])
+    ∷ reordered (setOfAB (sensorS ∷ []) (circling 0 0 ++ forbidding 1 0)) (23 ∷ 0 ∷ 1 ∷ []) (58 ∷ 1 ∷ 0 ∷ [])
     -- an endless walk where s is off, no vector where t is on: words 2 and 3 have none, and 2 is told, behind the good word 1
-    ∷ reordered (setOfAB (sensorS ∷ sensorT ∷ []) (circling 0 1 ++ forbidding 2 0)) (23 ∷ 0 ∷ 1 ∷ []) (22 ∷ 2 ∷ [])
+    ∷ reordered (setOfAB (sensorS ∷ sensorT ∷ []) (circling 0 1 ++ forbidding 2 0)) (23 ∷ 0 ∷ 1 ∷ []) (58 ∷ 2 ∷ 0 ∷ [])
     -- 23 stays: an endless walk where s is on, and vectors at both words
     ∷ reordered (setOfAB (sensorS ∷ []) (circling 1 0)) (23 ∷ 1 ∷ 1 ∷ []) (23 ∷ 1 ∷ 1 ∷ [])
-    -- 22 stays: no vector where s is off, an endless walk where it is on
-    ∷ reordered (setOfAB (sensorS ∷ []) (forbidding 0 1 ++ circling 1 0)) (22 ∷ 0 ∷ []) (22 ∷ 0 ∷ [])
+    -- 22 or 58 stays: no vector where s is off, an endless walk where it is on
+    ∷ reordered (setOfAB (sensorS ∷ []) (forbidding 0 1 ++ circling 1 0)) (58 ∷ 0 ∷ 0 ∷ []) (58 ∷ 0 ∷ 0 ∷ [])
     -- and acceptance
     ∷ reordered P (0 ∷ []) (0 ∷ [])
     ∷ []
@@ -454,12 +464,65 @@ scratchCases =
     -- with a byte for each vector, and with more, it is the same verdict
     ∷ judged (idle 4) 16 (no 0)
     ∷ judged P 4 (no 0)
-    ∷ judged clashing 1 (22 ∷ 1 ∷ [])
-    ∷ judged clashing 2 (22 ∷ 1 ∷ [])
+    ∷ judged clashing 1 (58 ∷ 1 ∷ 0 ∷ [])
+    ∷ judged clashing 2 (58 ∷ 1 ∷ 0 ∷ [])
     ∷ judged endless 1 (23 ∷ 0 ∷ 1 ∷ [])
     ∷ judged endless 4096 (23 ∷ 0 ∷ 1 ∷ [])
     -- a walk that goes round in the second byte; vectors that are safe in the middle of a byte
     ∷ judged circlingAt8 2 (23 ∷ 0 ∷ 8 ∷ [])
     ∷ judged circlingAt8 16 (23 ∷ 0 ∷ 8 ∷ [])
     ∷ scans lateAt1 (call 1 0 ∷ call 1 15 ∷ call 0 8 ∷ call 1 2 ∷ []) (sent 5 0 ∷ sent 7 0 ∷ sent 8 0 ∷ sent 7 0 ∷ [])
+    ∷ []
+
+-- ---- change request K10
+
+-- the four constraints that forbid every vector of A and B, where the read literals are true, and force nothing: each names both
+abbrev pub covering : ℕ → ℕ → List Constraint
+covering plain negated = product plain negated 3 0 [] ∷ product plain negated 1 2 [] ∷ product plain negated 2 1 [] ∷ product plain negated 0 3 [] ∷ []
+
+-- "B", "not B", where the read literals are true
+abbrev pub forbiddingB : ℕ → ℕ → List Constraint
+forbiddingB plain negated = product plain negated 2 0 [] ∷ product plain negated 0 2 [] ∷ []
+
+-- "s and A", "t and not A": A is forced both ways where both are on
+abbrev pub twoSensors : Set
+twoSensors = setOf (sensorS ∷ sensorT ∷ []) (nameA ∷ []) (product 1 0 1 0 [] ∷ product 2 0 0 1 [] ∷ [])
+
+-- simple constraints that contradict: what 22 was, and what it is
+abbrev pub clashCases : List Case
+clashCases =
+    -- document 01's own, and the same for the second of two sensors
+    named clashing (22 ∷ 1 ∷ []) (58 ∷ 1 ∷ 0 ∷ [])
+    ∷ named clashingLater (22 ∷ 2 ∷ []) (58 ∷ 2 ∷ 0 ∷ [])
+    -- B alone; A and B, of which A is named, wherever they stand; A and B each one way, and C both ways
+    ∷ named (setOfAB [] (forbiddingB 0 0)) (22 ∷ 0 ∷ []) (58 ∷ 0 ∷ 1 ∷ [])
+    ∷ named (setOfAB [] (forbidding 0 0 ++ forbiddingB 0 0)) (22 ∷ 0 ∷ []) (58 ∷ 0 ∷ 0 ∷ [])
+    ∷ named (setOfAB [] (forbiddingB 0 0 ++ forbidding 0 0)) (22 ∷ 0 ∷ []) (58 ∷ 0 ∷ 0 ∷ [])
+    ∷ named
+    (setOf [] (nameA ∷ nameB ∷ nameC ∷ []) (product 0 0 1 0 [] ∷ product 0 0 0 2 [] ∷ product 0 0 4 0 [] ∷ product 0 0 0 4 [] ∷ []))
+    (22 ∷ 0 ∷ []) (58 ∷ 0 ∷ 2 ∷ [])
+    -- two read literals that are true together at word 3 alone
+    ∷ named twoSensors (22 ∷ 3 ∷ []) (58 ∷ 3 ∷ 0 ∷ [])
+    -- 22 without a clash: by combined constraints alone, and with A held on
+    ∷ named (setOfAB [] (covering 0 0)) (22 ∷ 0 ∷ []) (22 ∷ 0 ∷ [])
+    ∷ named (setOfAB [] (product 0 0 3 0 [] ∷ product 0 0 1 2 [] ∷ product 0 0 0 1 [] ∷ [])) (22 ∷ 0 ∷ []) (22 ∷ 0 ∷ [])
+    -- a clash at a higher word than a missing vector changes nothing; one at the same word is named
+    ∷ named (setOfAB (sensorS ∷ []) (covering 0 1 ++ forbidding 1 0)) (22 ∷ 0 ∷ []) (22 ∷ 0 ∷ [])
+    ∷ named (setOfAB (sensorS ∷ []) (covering 0 1 ++ forbiddingB 0 0)) (22 ∷ 0 ∷ []) (58 ∷ 0 ∷ 1 ∷ [])
+    -- an endless walk below a clash gives way to it; one where no vector is missing stays
+    ∷ reordered (setOfAB (sensorS ∷ []) (circling 0 1 ++ forbiddingB 1 0)) (23 ∷ 0 ∷ 1 ∷ []) (58 ∷ 1 ∷ 1 ∷ [])
+    ∷ named (setOfAB (sensorS ∷ []) (circling 0 1 ++ forbiddingB 1 0)) (22 ∷ 1 ∷ []) (58 ∷ 1 ∷ 1 ∷ [])
+    ∷ named endless (23 ∷ 0 ∷ 1 ∷ []) (23 ∷ 0 ∷ 1 ∷ [])
+    ∷ named P (0 ∷ []) (0 ∷ [])
+    -- 20 and 21 before 58
+    ∷ judged (withRest clashing 2) 1 (no 20)
+    ∷ judged clashing 0 (no 21)
+    -- the reckoning at each word; a combined constraint forces nothing
+    ∷ reckons twoSensors 0 (0 ∷ 0 ∷ 0 ∷ [])
+    ∷ reckons twoSensors 1 (0 ∷ 1 ∷ 0 ∷ [])
+    ∷ reckons twoSensors 2 (0 ∷ 0 ∷ 1 ∷ [])
+    ∷ reckons twoSensors 3 (58 ∷ 0 ∷ [])
+    ∷ reckons (setOfAB [] (product 0 0 3 0 [] ∷ product 0 0 0 1 [] ∷ [])) 0 (0 ∷ 0 ∷ 1 ∷ [])
+    -- a scan that meets a clash is answered by 33, and its state is kept: the past sensor word is that of the scan before
+    ∷ scansOf (freshState clashing) (call 1 1 ∷ call 0 1 ∷ call 1 0 ∷ call 0 0 ∷ []) (no 33 ∷ sent 1 0 ∷ no 33 ∷ sent 0 0 ∷ [])
     ∷ []

@@ -6,6 +6,7 @@ pub mod Column
 pub mod FileSays
 pub mod Texts
 pub mod Verdicts
+pub mod Clash
 pub mod OneGroup
 pub mod OneBit
 pub mod Meanings

@@ -32,7 +32,7 @@ NumbersThenEnd (n ∷ numbers) bytes = (digits : List ℕ) × (rest : List ℕ) 
 abbrev pub IsLine : List ℕ → List ℕ → List ℕ → Type 0
 IsLine word numbers bytes = (rest : List ℕ) × (bytes ≡ word ++ rest) × NumbersThenEnd numbers rest
 
--- ---- document 01's words
+-- ---- document 01's words, and change request K10's
 
 -- ACCEPT
 abbrev pub acceptWord : List ℕ
@@ -45,6 +45,10 @@ loadWord = 0x4C ∷ 0x4F ∷ 0x41 ∷ 0x44 ∷ []
 -- NOVECTOR
 abbrev pub noVectorWord : List ℕ
 noVectorWord = 0x4E ∷ 0x4F ∷ 0x56 ∷ 0x45 ∷ 0x43 ∷ 0x54 ∷ 0x4F ∷ 0x52 ∷ []
+
+-- CLASH
+abbrev pub clashWord : List ℕ
+clashWord = 0x43 ∷ 0x4C ∷ 0x41 ∷ 0x53 ∷ 0x48 ∷ []
 
 -- NOEND
 abbrev pub noEndWord : List ℕ
@@ -71,12 +75,14 @@ pub record LineSays (file : List ℕ) : Type 0 where
   -- a set that is accepted: `ACCEPT`, and its counts
   pub accepted : loadTold (loadOf file .answer) ≡ 0 ∷ [] → verdictOn file ≡ 0 ∷ []
       → IsLine acceptWord (loadOf file .set .r ∷ loadOf file .set .n ∷ loadOf file .set .m ∷ []) (printedOf file)
-  -- a set that is rejected: `NOVECTOR` and the word, or `NOEND`, the word and the request
+  -- a set that is rejected: `NOVECTOR` and the word, `CLASH`, the word and the output, or `NOEND`, the word and the request
   pub no-vector : (w : ℕ) → loadTold (loadOf file .answer) ≡ 0 ∷ [] → verdictOn file ≡ 22 ∷ w ∷ [] → IsLine noVectorWord (w ∷ []) (printedOf file)
+  pub clash : (w k : ℕ) → loadTold (loadOf file .answer) ≡ 0 ∷ [] → verdictOn file ≡ 58 ∷ w ∷ k ∷ [] → IsLine clashWord (w ∷ k ∷ []) (printedOf file)
   pub no-end : (w g : ℕ) → loadTold (loadOf file .answer) ≡ 0 ∷ [] → verdictOn file ≡ 23 ∷ w ∷ g ∷ [] → IsLine noEndWord (w ∷ g ∷ []) (printedOf file)
-  -- nothing else comes: a file of bytes that loads is accepted, or rejected with 22 or 23
+  -- nothing else comes: a file of bytes that loads is accepted, or rejected with 22, 58 or 23
   pub one : Bytes file → loadTold (loadOf file .answer) ≡ 0 ∷ []
-      → (verdictOn file ≡ 0 ∷ []) ⊎ ((w : ℕ) × (verdictOn file ≡ 22 ∷ w ∷ [])) ⊎ ((w : ℕ) × (g : ℕ) × (verdictOn file ≡ 23 ∷ w ∷ g ∷ []))
+      → (verdictOn file ≡ 0 ∷ []) ⊎ ((w : ℕ) × (verdictOn file ≡ 22 ∷ w ∷ [])) ⊎ ((w : ℕ) × (k : ℕ) × (verdictOn file ≡ 58 ∷ w ∷ k ∷ []))
+      ⊎ ((w : ℕ) × (g : ℕ) × (verdictOn file ≡ 23 ∷ w ∷ g ∷ []))
   -- 80 bytes are enough for the line: it stands at their front, and its length is told
   pub whole : (buf : List ℕ) → 80 ≤ length buf
       → (lineAnswer (lineOf file programScratch) (length buf) ≡ length (printedOf file))

@@ -11,7 +11,8 @@ use Rattle.scan.specs.Active.{activeOf}
 use Rattle.scan.specs.Walk.{walk}
 use Rattle.scan.specs.way.Columns.{columnsOf, activeBy}
 use Rattle.scan.specs.way.Table.{tableOf, safeIn, walkIn}
-use Rattle.promise.specs.Terms.{Bit, ReadsTrue, HeldOff, HeldOn}
+use Rattle.promise.specs.Terms.{Bit, ReadsTrue}
+use Rattle.promise.specs.Clash.{HoldsAnswer}
 
 -- Of a well-formed set at the read word w.
 pub record ByActive (s : Set) (w : ℕ) : Type 0 where
@@ -20,8 +21,7 @@ pub record ByActive (s : Set) (w : ℕ) : Type 0 where
   -- it is the mask that the one function that sees a read word makes of the set's literals
   pub made : activeBy (columnsOf s .«read_plain») (columnsOf s .«read_named») (s .m) w ≡ activeOf s w
   -- the holds that are made of the mask are those of the word, output by output
-  pub held-off : (k : ℕ) → Bit k (tableOf s (activeOf s w) .holds .f0) ↔ HeldOff s w k
-  pub held-on : (k : ℕ) → Bit k (tableOf s (activeOf s w) .holds .f1) ↔ HeldOn s w k
+  pub holds : HoldsAnswer s w (tableOf s (activeOf s w) .holds)
   -- judging a vector, and walking a request, by what is made of the mask gives document 01's answer at the word
   pub judges : (v : ℕ) → safeIn (tableOf s (activeOf s w)) v ≡ safe s w v
   pub walks : (request : ℕ) → walkIn (tableOf s (activeOf s w)) request ≡ walk s w request

@@ -4,7 +4,7 @@
 -- `findTold` give document 01's number of an answer, 0 for one that is no refusal, with its values.
 -- What the demands say of these is said in document 01's own terms, in bits, bytes and numbers (specs/Terms, Allowed, Verdicts, Scans, Column); where
 -- they name a definition that the code meets too (`after`, `vectorDue`, `passesDue`, `wordOf`, `readAfter`), specs/Meanings and specs/Scans say what it
--- is; specs/PowerUp has change request K2, specs/OneGroup K5, specs/RestWord K6, specs/OneBit K8; and specs/FileSays says what stands in a file.
+-- is; specs/PowerUp has change request K2, specs/OneGroup K5, specs/RestWord K6, specs/OneBit K8, specs/Clash K10; and specs/FileSays says what stands in a file.
 -- Every call ends: a function of Rattle that is proved returns.
 -- Assumes nothing.
 use mathlib.Core.Path.{_≡_}
@@ -32,7 +32,7 @@ use Rattle.promise.specs.Column.{loadTests}
 use Rattle.writer.specs.Write.{writeOf, writeAnswer, bufferAfter}
 use Rattle.loader.specs.Told.{loadTold}
 use Rattle.writer.specs.Told.{writeTold}
-use Rattle.promise.specs.Terms.{stateWith}
+use Rattle.promise.specs.Terms.{BothWays, stateWith}
 use Rattle.promise.specs.Zero.{allZeroSet, allZeroState}
 use Rattle.promise.specs.Allowed.{StateAllowed, SensorAllowed, RequestAllowed, wordOf, readName, outputName, LengthAllowed, NameBytes, NoPoint}
 use Rattle.promise.specs.Meanings.{Meanings, ReadsMean, NameBytesMean, SameButLoneRanks, LoneRanksUnread}
@@ -40,6 +40,7 @@ use Rattle.promise.specs.FileSays.{FileSays}
 use Rattle.promise.specs.Lines.{LineSays}
 use Rattle.promise.specs.Texts.{Texts}
 use Rattle.promise.specs.Verdicts.{EndsSafe, GoodWord, BadWord, FirstNoVector, FirstNoEnd}
+use Rattle.promise.specs.Clash.{LowestClash, NoClash, Reckoning, ClashNamed}
 use Rattle.promise.specs.OneGroup.{OneGroup}
 use Rattle.promise.specs.OneBit.{ScratchSize, OneBit, ByEights}
 use Rattle.promise.specs.Scans.{SendsDue, EveryRight, StateOfList}
@@ -93,6 +94,9 @@ pub record ScanRefusals (st : State) (present request : ℕ) : Type 0 where
   -- 33 exactly when the walk never reaches a safe vector
   pub unsafe : (scanTold (scanOf st present request .answer) ≡ 33 ∷ [])
       ↔ (StateAllowed st × SensorAllowed (st .set) present × RequestAllowed (st .set) request × (¬ EndsSafe (st .set) (wordOf st present) request))
+  -- so where an output is forced both ways: no pass is made
+  pub clash : StateAllowed st → SensorAllowed (st .set) present → RequestAllowed (st .set) request → (k : ℕ) → BothWays (st .set) (wordOf st present) k
+      → scanTold (scanOf st present request .answer) ≡ 33 ∷ []
   -- any other scan sends a vector
   pub sends : StateAllowed st → SensorAllowed (st .set) present → RequestAllowed (st .set) request → EndsSafe (st .set) (wordOf st present) request
       → (v : ℕ) × (k : ℕ) × (scanTold (scanOf st present request .answer) ≡ 0 ∷ v ∷ k ∷ [])
@@ -160,8 +164,10 @@ pub record ExactVerdict (s : Set) (room : ℕ) : Type 0 where
   pub rejects : (verdictTold (judgeOf s room) ≢ 0 ∷ []) ↔ ((w : ℕ) × (w < 2 ^ s .r) × BadWord s w)
   -- it is accepted exactly when every read word has a safe vector and every walk reaches one
   pub accepts : (verdictTold (judgeOf s room) ≡ 0 ∷ []) ↔ ((w : ℕ) → w < 2 ^ s .r → GoodWord s w)
-  -- 22 names w exactly when w is the first word without a safe vector
-  pub names-word : (w : ℕ) → (verdictTold (judgeOf s room) ≡ 22 ∷ w ∷ []) ↔ FirstNoVector s w
+  -- 22 names w exactly when w is the first word without a safe vector, and no output is forced both ways there
+  pub names-word : (w : ℕ) → (verdictTold (judgeOf s room) ≡ 22 ∷ w ∷ []) ↔ (FirstNoVector s w × NoClash s w)
+  -- 58 names w and k exactly when w is the first word without a safe vector, and k is the lowest output forced both ways there
+  pub names-clash : (w k : ℕ) → (verdictTold (judgeOf s room) ≡ 58 ∷ w ∷ k ∷ []) ↔ (FirstNoVector s w × LowestClash s w k)
   -- 23 names w and g exactly when every word has a safe vector, w is the first with a request whose walk never reaches one, and g is the first such request
   pub names-request : (w g : ℕ) → (verdictTold (judgeOf s room) ≡ 23 ∷ w ∷ g ∷ []) ↔ FirstNoEnd s w g
 
@@ -196,6 +202,8 @@ pub record Demand3 : Type 0 where
   pub one-group : (s : Set) (room : ℕ) → wellFormed s ≡ true → scratchBytes (s .n) ≤ room → OneGroup s room
   -- with a bit of scratch for each vector in place of a byte only 21 moved
   pub one-bit : (s : Set) (room : ℕ) → OneBit s room
+  -- where an output is forced both ways 58 stands in place of 22, and no other answer moved
+  pub clash-named : (s : Set) (room : ℕ) → ClashNamed s room
   pub start : (s : Set) (room : ℕ) → ExactStart s room
   pub scans : (s : Set) (room : ℕ) → verdictTold (startOf s room .verdict) ≡ 0 ∷ [] → (calls : List Call) → RightScans s room calls
 
@@ -215,6 +223,8 @@ pub record Promise : Type 0 where
   pub rest-word : RestWord
   -- holds looked up once for a word: judging and walking by the active constraints, and no read word
   pub by-active : (s : Set) (w : ℕ) → wellFormed s ≡ true → ByActive s w
+  -- simple constraints that contradict: what the reckoning of holds answers
+  pub reckoning : (s : Set) (w : ℕ) → wellFormed s ≡ true → Reckoning s w
   -- the verdict inside the box: eight vectors judged at once, and eight read words in a row
   pub by-eights : (s : Set) (w : ℕ) → wellFormed s ≡ true → ByEights s w
   -- a name byte is 0x21 to 0x7E

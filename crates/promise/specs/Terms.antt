@@ -66,6 +66,10 @@ HeldOn s w k = (i : ℕ) × (i < s .m) × Simple (constraint s i) × ReadsTrue (
 abbrev pub Held : Set → ℕ → ℕ → Type 0
 Held s w k = HeldOff s w k ⊎ HeldOn s w k
 
+-- output k is forced both ways: some simple constraint holds it off, and some simple constraint holds it on
+abbrev pub BothWays : Set → ℕ → ℕ → Type 0
+BothWays s w k = HeldOff s w k × HeldOn s w k
+
 -- f: the number of outputs below n that are not held, counted by a test that tells them
 abbrev pub IsUnheldCount : Set → ℕ → ℕ → Type 0
 IsUnheldCount s w f = (p : ℕ → Bool) × ((k : ℕ) → k < s .n → (p k ≡ true) ↔ (¬ Held s w k)) × (f ≡ count (s .n) p)

@@ -21,10 +21,10 @@ use Rattle.scan.specs.Set.{constraint}
 use Rattle.scan.specs.Shape.{wellFormed}
 use Rattle.scan.specs.Constraint.{readsTrue, outsTrue, isTrue, simple, combined}
 use Rattle.scan.specs.Active.{isActive, activeOf}
-use Rattle.scan.specs.Holds.{holding, toZero, toOne, F0, F1}
+use Rattle.scan.specs.Holds.{holding, toZero, toOne, F0, F1, reckoned, holdsOf}
 use Rattle.scan.specs.Pass.{fires}
 use Rattle.scan.specs.way.Columns.{counted, ofEach, columnUpto, column, simpleAt, columnsOf, entryTrue, activeBy}
-use Rattle.scan.specs.way.Holds.{holdsOf, keptAt, holdsBy}
+use Rattle.scan.specs.way.Holds.{keptAt, holdsBy, holdsAt}
 use Rattle.scan.proofs.ShapeLaws.{counts, masks}
 use Rattle.scan.proofs.PlacesLaws.{places-at}
 use Rattle.scan.proofs.ConstraintLaws.{combined-is}
@@ -91,13 +91,16 @@ module _ (s : Set) (ok : wellFormed s ≡ true) where
     held f =
         ap (λ (k : ℕ). gather k (keptAt (column s f) (bitAnd (activeOf s w) (columnsOf s .simple)))) counted-all ∙ gather-cong (s .m) _ _ (kept f)
 
-    -- the holds of the active simple constraints are F0 and F1
+    -- the holds of the active simple constraints are those of the word
     pub holds-are : holdsBy (columnsOf s .«out_plain») (columnsOf s .«out_negated») (s .m) (bitAnd (activeOf s w) (columnsOf s .simple)) ≡ holdsOf s w
     unfolding holdsBy columnsOf F0 F1 toZero toOne
-    holds-are = λ j. record {
-      f0 = (held (λ c. c .«out_plain»)) j;
-      f1 = (held (λ c. c .«out_negated»)) j;
-    }
+    holds-are = ap₂ reckoned (held (λ c. c .«out_plain»)) (held (λ c. c .«out_negated»))
+
+    -- and so are those that the lists of literals give
+    pub holds-at : holdsAt s w ≡ holdsOf s w
+    unfolding holdsAt
+    holds-at =
+        ap (λ (a : ℕ). holdsBy (columnsOf s .«out_plain») (columnsOf s .«out_negated») (s .m) (bitAnd a (columnsOf s .simple))) (active-is w) ∙ holds-are
 
     -- a constraint fires where it is active and not simple, and its output literals are true
     pub fires-by : (v i : ℕ) → i < s .m → fires s w v i ≡ bit i (without (activeOf s w) (columnsOf s .simple)) && outsTrue (constraint s i) v

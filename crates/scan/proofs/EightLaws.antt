@@ -12,14 +12,16 @@ use lib.ListN.{getD}
 use lib.Bits.{bitAnd, and-step, and-shr, and-mod, and-le-l, xor-add-and}
 use Rattle.words.specs.Word.{bit, without, meets}
 use Rattle.words.proofs.BoolLaws.{and-assoc}
-use Rattle.words.proofs.BitLaws.{bit-and, bit-without, split-eight}
+use Rattle.words.proofs.BitLaws.{bit-and, bit-without, bit-zero, split-eight}
 use Rattle.words.proofs.LoopLaws.{bit-cond, bit-gather, bit-word, some-cong, word-lt}
+use Rattle.scan.specs.declared.holds.Holds.{Holds}
+use Rattle.scan.specs.declared.holds.Holds.the-variants.{Forced, Clash}
 use Rattle.scan.specs.declared.table.Table.{Table}
 use Rattle.scan.specs.declared.eight.Eight.{Eight}
 use Rattle.scan.specs.Set.{mostConstraints}
 use Rattle.scan.specs.way.Columns.{entryTrue}
-use Rattle.scan.specs.way.Table.{entryFlips, flipsOver, anyTrue, safeOver, safeIn}
-use Rattle.scan.specs.way.Eight.{lowTrue, lowHeld, highPart, lowPart, eightOf, safeByte, safeByteIn}
+use Rattle.scan.specs.way.Table.{entryFlips, flipsOver, anyTrue, safeOver, safeHeld, safeIn}
+use Rattle.scan.specs.way.Eight.{lowTrue, lowHeld, highPart, lowPart, eightOf, safeByte, safeByteHeld, safeByteIn}
 use Rattle.scan.proofs.PlacesLaws.{places-at}
 
 -- ---- one of the eight
@@ -124,16 +126,19 @@ safe-byte-bit plain named count e is f0 f1 chosen b j l =
     ∙ ap (λ (x : Bool). bit j chosen && (x && none)) (held-bit b j l f0 f1)
 
 -- by a table: all the safe ones
-pub safe-byte-in : (t : Table) (b j : ℕ) → j < 8 → bit j (safeByteIn t b) ≡ safeIn t (8 * b + j)
-unfolding safeByteIn safeOver
-safe-byte-in t b j l =
-    let f0 = t .holds .f0 in
-    let f1 = t .holds .f1 in
+safe-byte-held : (h : Holds) (plain named : List ℕ) (count b j : ℕ) → j < 8 → bit j (safeByteHeld h plain named count b) ≡ safeHeld h plain named count (8 * b + j)
+unfolding safeOver
+safe-byte-held (Forced f0 f1) plain named count b j l =
     let kept = meets (f1 / 8) (f0 / 8) b in
-    let none = not (anyTrue (t .plain) (t .named) (t .count) (8 * b + j)) in
-    byte-bit b j l (t .plain) (t .named) (t .count) (eightOf (t .plain) (t .named) (t .count)) refl (lowHeld f0 f1) f0 f1
+    let none = not (anyTrue plain named count (8 * b + j)) in
+    byte-bit b j l plain named count (eightOf plain named count) refl (lowHeld f0 f1) f0 f1
     ∙ and-assoc kept (bit j (lowHeld f0 f1)) none
     ∙ ap (λ (x : Bool). x && none) (held-bit b j l f0 f1)
+safe-byte-held (Clash k) plain named count b j l = bit-zero j
+
+pub safe-byte-in : (t : Table) (b j : ℕ) → j < 8 → bit j (safeByteIn t b) ≡ safeIn t (8 * b + j)
+unfolding safeByteIn
+safe-byte-in t b j l = safe-byte-held (t .holds) (t .plain) (t .named) (t .count) b j l
 
 -- ---- how large the bytes are
 

@@ -1,21 +1,27 @@
--- What the masks of a read word mean, output by output, in document 01's words; they have no bit at n or above.
+-- What the masks of a read word mean, output by output, in document 01's words; they have no bit at n or above. And what the reckoning of holds says of two masks.
 -- Assumes nothing.
-use mathlib.Core.Path.{_≡_, ap, ap₂, _∙_}
+use mathlib.Core.Path.{_≡_, refl, sym, ap, ap₂, _∙_, subst}
 use mathlib.Core.Bool.{Bool, true, false, cond, not, _&&_, _||_}
+use mathlib.Core.Logic.{_⊎_, inl, inr, ⊎-elim}
 use Prim.Native.Nat.{ℕ, _+_, _-_, _^_, _<_}
 use native.Mathlib.Nat.{lt-of-le-of-lt}
+use native.Mathlib.Decide.{decLt}
 use native.Mathlib.Omega.{arith}
 use lib.Pow.{pow-pos, ones-lt}
 use lib.Bits.{bitAnd, bitOr, or-lt, xor-lt, and-le-l}
+use borrow.Author.Tests.{lt-ltb}
 use Rattle.words.specs.Word.{bit, low, without, popcount}
-use Rattle.words.specs.Loop.{some, count}
+use Rattle.words.specs.Loop.{some, count, first}
+use Rattle.words.proofs.BoolLaws.{and-true}
 use Rattle.words.proofs.BitLaws.{bit-or, bit-without, bit-above}
 use Rattle.words.proofs.PopcountLaws.{ones-count, count-cong, count-beyond}
-use Rattle.words.proofs.LoopLaws.{bit-gather, bit-cond, bit-low, some-cong, gather-lt}
+use Rattle.words.proofs.LoopLaws.{bit-gather, bit-cond, bit-low, some-cong, gather-lt, First, first-spec, first-is, first-none}
 use Rattle.scan.specs.declared.set.Set.{Set}
+use Rattle.scan.specs.declared.holds.Holds.{Holds}
+use Rattle.scan.specs.declared.holds.Holds.the-variants.{Forced, Clash}
 use Rattle.scan.specs.Set.{constraint}
 use Rattle.scan.specs.Shape.{wellFormed}
-use Rattle.scan.specs.Holds.{holding, toZero, toOne, F0, F1, unheldBy, unheld, unheldCount, startFrom, startVector}
+use Rattle.scan.specs.Holds.{holding, toZero, toOne, F0, F1, bothWays, reckoned, LowestBoth, NoneBoth, unheldBy, unheld, unheldCount, startFrom, startVector}
 use Rattle.scan.proofs.ShapeLaws.{counts, masks}
 
 -- ---- the bits
@@ -46,6 +52,44 @@ module _ (s : Set) (w k : ℕ) where
   unheld-bit h =
       bit-without k (low (s .n)) (bitOr (F0 s w) (F1 s w))
       ∙ ap₂ (λ (a b : Bool). a && not b) (bit-low (s .n) k h) (bit-or k (F0 s w) (F1 s w))
+
+-- ---- the reckoning of holds
+
+module _ (f0 f1 : ℕ) where
+  pub reckoned-clash : (k : ℕ) → LowestBoth f0 f1 k → reckoned f0 f1 ≡ Clash k
+  unfolding reckoned bothWays
+  reckoned-clash k l = rw (first-is 16 k (bothWays f0 f1) (l .fits) (ap₂ _&&_ (l .off) (l .on)) (l .before), lt-ltb k 16 (l .fits))
+
+  pub reckoned-forced : NoneBoth f0 f1 → reckoned f0 f1 ≡ Forced f0 f1
+  unfolding reckoned
+  reckoned-forced n = rw (first-none 16 (bothWays f0 f1) n)
+
+  -- it is one or the other
+  lowest-or-none : ((k : ℕ) × LowestBoth f0 f1 k) ⊎ NoneBoth f0 f1
+  unfolding bothWays
+  lowest-or-none = go (first 16 (bothWays f0 f1)) (first-spec 16 (bothWays f0 f1)) (decLt (first 16 (bothWays f0 f1)) 16)
+    where
+      go : (k : ℕ) → First 16 (bothWays f0 f1) k → Dec (k < 16) → ((j : ℕ) × LowestBoth f0 f1 j) ⊎ NoneBoth f0 f1
+      go k f (yes h) =
+          let both = and-true (bit k f0) (bit k f1) (f .here h) in
+          inl (k, record { fits = h; off = both .0; on = both .1; before = f .before })
+      go k f (no nh) = inr (λ j h. f .before j (omega arith))
+
+  pub by-reckoned {ℓ} : {C : Type ℓ} → ((k : ℕ) → LowestBoth f0 f1 k → C) → (NoneBoth f0 f1 → C) → C
+  by-reckoned lowest none = ⊎-elim (λ x. lowest (x .0) (x .1)) none lowest-or-none
+
+  -- ---- and what it says tells which
+
+  -- by an answer: the two masks, and no output in both; or the lowest output that both have
+  abbrev Says : Holds → Type 0
+  Says (Forced a b) = (f0 ≡ a) × (f1 ≡ b) × NoneBoth f0 f1
+  Says (Clash k) = LowestBoth f0 f1 k
+
+  pub reckoned-says : (h : Holds) → reckoned f0 f1 ≡ h → Says h
+  reckoned-says h e =
+      by-reckoned
+      (λ k l. subst Says (sym (reckoned-clash k l) ∙ e) l)
+      (λ n. subst Says (sym (reckoned-forced n) ∙ e) (refl, refl, n))
 
 -- ---- no bit at n or above
 

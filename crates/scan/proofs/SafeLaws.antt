@@ -1,5 +1,5 @@
--- What a safe vector is: a safe request is its own start vector; and a vector is safe just where every held output is as it is held and no
--- combined constraint is true.
+-- What a safe vector is: a safe request is its own start vector; where an output is forced both ways no vector is safe; and a vector is safe just where every held
+-- output is as it is held and no combined constraint is true.
 -- Assumes nothing.
 use mathlib.Core.Path.{_≡_, refl, sym, ap, ap₂, _∙_}
 use mathlib.Core.Bool.{Bool, true, false, not, _&&_, _||_}
@@ -74,6 +74,10 @@ module _ (s : Set) (w v : ℕ) (ok : wellFormed s ≡ true) where
         ap₂ (λ (a b : Bool). a && not b)
         (bits-meet (s .n) (F1 s w) (F0 s w) v (F1-lt s w ok) (F0-lt s w ok) F1-set F0-clear)
         (some-false (s .m) (fires s w v) (λ i h. and-false (combined (constraint s i)) (isTrue (constraint s i) w v) (none-true i h)))
+
+  -- where an output is forced both ways no vector is safe
+  pub clash-unsafe : (k : ℕ) → bit k (F0 s w) ≡ true → bit k (F1 s w) ≡ true → safe s w v ≡ false
+  clash-unsafe k off on = by-test (safe s w v) (λ good. clash (F1-set good k on) (F0-clear good k off)) (λ e. e)
 
   -- ---- and with every held output as it is held, and no combined constraint true, no constraint is
 

@@ -11,7 +11,8 @@ use lib.Dec.{eqb}
 use lib.ListN.{length, getD, set, replicate, length-set, getD-replicate}
 use lib.Seq.{getD-set-same, getD-set-other}
 use lib.Bits.{bitAnd, bitOr, bitXor, or-zero-r, and-zero-r}
-use Rattle.words.specs.Word.{bit, without, meets}
+use lib.Count.{onesIn}
+use Rattle.words.specs.Word.{bit, without, meets, popcount}
 use Rattle.words.specs.Loop.{gather, some}
 use Rattle.words.proofs.BoolLaws.{by-test, cond-true, cond-false}
 use Rattle.words.proofs.BitLaws.{meets-once}
@@ -20,20 +21,22 @@ use Rattle.words.proofs.LoopTurns.{gather-none, gather-more, some-none, some-mo
 use Rattle.scan.specs.declared.set.Constraint.{Constraint}
 use Rattle.scan.specs.declared.set.Set.{Set}
 use Rattle.scan.specs.declared.holds.Holds.{Holds}
+use Rattle.scan.specs.declared.holds.Holds.the-variants.{Forced, Clash}
 use Rattle.scan.specs.declared.columns.Columns.{Columns}
 use Rattle.scan.specs.declared.table.Table.{Table}
 use Rattle.scan.specs.Set.{mostConstraints, constraint, outs}
 use Rattle.scan.specs.Shape.{wellFormed}
 use Rattle.scan.specs.Constraint.{outsTrue, safe}
 use Rattle.scan.specs.Active.{activeOf}
-use Rattle.scan.specs.Holds.{unheldBy, unheld, unheldCount, passLimit, startFrom, startVector}
+use Rattle.scan.specs.Holds.{F0, F1, NoneBoth, holdsOf, unheldBy, unheld, unheldCount, passLimit, startFrom, startVector}
 use Rattle.scan.specs.Pass.{yielding, yields, fires, flips, pass}
-use Rattle.scan.specs.Walk.{walkBy, walk}
-use Rattle.scan.specs.way.Holds.{holdsOf, holdsBy, limitBy}
+use Rattle.scan.specs.Walk.{walkBy, walkHeld, walk}
+use Rattle.scan.specs.way.Holds.{holdsBy, limitBy}
 use Rattle.scan.specs.way.Columns.{columnsOf, entryTrue}
-use Rattle.scan.specs.way.Table.{outputsIn, unheldIn, yieldsIn, emptyTable, withEntry, withCount, tableUpto, filledUp, tableBy, tableOf, entryFlips, flipsOver, passOver, anyTrue, safeOver, safeIn, passIn, walkIn}
+use Rattle.scan.specs.way.Table.{outputsIn, unheldIn, yieldsIn, emptyTable, withEntry, withCount, tableUpto, filledUp, tableBy, tableOf, entryFlips, flipsOver, passOver, anyTrue, safeOver, safeHeld, safeIn, passIn, walkIn}
 use Rattle.scan.proofs.ShapeLaws.{counts, masks, wide}
-use Rattle.scan.proofs.SafeLaws.{safe-table}
+use Rattle.scan.proofs.HoldsLaws.{reckoned-clash, reckoned-forced, by-reckoned, reckoned-says}
+use Rattle.scan.proofs.SafeLaws.{clash-unsafe, safe-table}
 use Rattle.scan.proofs.ActiveLaws.{counted-all, holds-are, fires-by}
 
 module _ (s : Set) (h : Holds) (entered : ℕ) where
@@ -223,8 +226,8 @@ unfolding tableOf
 made-table s l el active t et =
     et ∙ ap (λ (x : Columns). tableBy s (holdsBy (x .«out_plain») (x .«out_negated») (s .m) (bitAnd active (x .simple))) (without active (x .simple))) el
 
--- of a well-formed set, where the active constraints are those of a read word: the table's safety, pass, start vector and pass limit are the set's there, and so
--- is the walk
+-- of a well-formed set, where the active constraints are those of a read word: the table's safety, holds and walk are the set's there; and so are its pass, start
+-- vector and pass limit, where no output is forced both ways
 module _ (s : Set) (w : ℕ) (ok : wellFormed s ≡ true) where
   apart : (i : ℕ) → i < s .m → Apart (constraint s i)
   apart i h =
@@ -233,14 +236,6 @@ module _ (s : Set) (w : ℕ) (ok : wellFormed s ≡ true) where
 
   outputs-all : outputsIn s ≡ s .n
   outputs-all = min-eq-left (counts s ok .n-le)
-
-  unheld-is : unheldIn s (holdsOf s w) ≡ unheld s w
-  unfolding unheldIn unheld
-  unheld-is = ap (λ (n : ℕ). unheldBy n (holdsOf s w .f0) (holdsOf s w .f1)) outputs-all
-
-  yields-is : (i : ℕ) → yields s w i ≡ yieldsIn s (holdsOf s w) i
-  unfolding yields yieldsIn
-  yields-is i = sym (λ j. yielding (outputs-all j) (constraint s i) (bitAnd (outs (constraint s i)) (unheld-is j)))
 
   -- the constraints that have an entry
   abbrev entered : ℕ
@@ -259,40 +254,92 @@ module _ (s : Set) (w : ℕ) (ok : wellFormed s ≡ true) where
   formed : Formed s (holdsOf s w) entries
   formed = upto-formed s (holdsOf s w) entered (s .m)
 
-  told : Tells s w (s .m) entries
-  told = tells s w (holdsOf s w) entered (s .m) (fires-by s ok w) yields-is (counts s ok .m-le) apart (s .m) (omega arith)
-
-  few : entries .count ≤ mostConstraints
-  few = omega (arith, told .few, counts s ok .m-le)
-
-  pub table-limit : tableOf s (activeOf s w) .limit ≡ passLimit s w
-  unfolding unheldCount
-  table-limit = ap (λ (t : Table). t .limit) table-is ∙ formed .limit-is ∙ ap limitBy unheld-is
-
   pub table-holds : tableOf s (activeOf s w) .holds ≡ holdsOf s w
   table-holds = ap (λ (t : Table). t .holds) table-is ∙ formed .holds-is
 
-  pub table-start : (request : ℕ)
-      → startFrom (tableOf s (activeOf s w) .holds .f0) (tableOf s (activeOf s w) .holds .f1) request ≡ startVector s w request
-  unfolding startVector
-  table-start request = ap (λ (h : Holds). startFrom (h .f0) (h .f1) request) table-holds
+  -- where no output is forced both ways
+  module _ (free : NoneBoth (F0 s w) (F1 s w)) where
+    holds-forced : holdsOf s w ≡ Forced (F0 s w) (F1 s w)
+    holds-forced = reckoned-forced (F0 s w) (F1 s w) free
 
-  pub table-pass : (v : ℕ) → passIn (tableOf s (activeOf s w)) v ≡ pass s w v
-  unfolding passOver pass
-  table-pass v =
-      ap (λ (t : Table). passIn t v) table-is
-      ∙ ap (bitXor v) (flips-filled (entries .plain) (entries .named) (entries .count) v few (formed .spare v) (entries .flip) ∙ sym (told .flipped v))
+    unheld-is : unheldIn s (holdsOf s w) ≡ unheld s w
+    unfolding unheldIn unheld
+    unheld-is = ap (unheldIn s) holds-forced ∙ ap (λ (n : ℕ). unheldBy n (F0 s w) (F1 s w)) outputs-all
 
+    yields-is : (i : ℕ) → yields s w i ≡ yieldsIn s (holdsOf s w) i
+    unfolding yields yieldsIn
+    yields-is i = sym (λ j. yielding (outputs-all j) (constraint s i) (bitAnd (outs (constraint s i)) (unheld-is j)))
+
+    told : Tells s w (s .m) entries
+    told = tells s w (holdsOf s w) entered (s .m) (fires-by s ok w) yields-is (counts s ok .m-le) apart (s .m) (omega arith)
+
+    few : entries .count ≤ mostConstraints
+    few = omega (arith, told .few, counts s ok .m-le)
+
+    limit-free : tableOf s (activeOf s w) .limit ≡ passLimit s w
+    unfolding unheldCount
+    limit-free = ap (λ (t : Table). t .limit) table-is ∙ formed .limit-is ∙ ap limitBy unheld-is
+
+    pass-free : (v : ℕ) → passIn (tableOf s (activeOf s w)) v ≡ pass s w v
+    unfolding passOver pass
+    pass-free v =
+        ap (λ (t : Table). passIn t v) table-is
+        ∙ ap (bitXor v) (flips-filled (entries .plain) (entries .named) (entries .count) v few (formed .spare v) (entries .flip) ∙ sym (told .flipped v))
+
+    safe-free : (v : ℕ) → safeIn (tableOf s (activeOf s w)) v ≡ safe s w v
+    unfolding safeOver
+    safe-free v =
+        let anys = any-filled (entries .plain) (entries .named) (entries .count) v few (formed .spare v) ∙ sym (told .anys v) in
+        ap (λ (t : Table). safeIn t v) table-is
+        ∙ ap (λ (h : Holds). safeHeld h (entries .plain) (entries .named) (filledUp (entries .count)) v) (formed .holds-is ∙ holds-forced)
+        ∙ ap (λ (b : Bool). meets (F1 s w) (F0 s w) v && not b) anys
+        ∙ sym (safe-table s w v ok)
+
+    walk-free : (request : ℕ) → walkIn (tableOf s (activeOf s w)) request ≡ walk s w request
+    unfolding walk
+    walk-free request = λ i. walkHeld (fun-ext safe-free i) (fun-ext pass-free i) (limit-free i) request (table-holds i)
+
+  -- clash or not
   pub table-safe : (v : ℕ) → safeIn (tableOf s (activeOf s w)) v ≡ safe s w v
-  unfolding safeOver
   table-safe v =
-      let anys = any-filled (entries .plain) (entries .named) (entries .count) v few (formed .spare v) ∙ sym (told .anys v) in
-      ap (λ (t : Table). safeIn t v) table-is
-      ∙ (λ i. meets (formed .holds-is i .f1) (formed .holds-is i .f0) v && not (anys i)) ∙ sym (safe-table s w v ok)
+      by-reckoned (F0 s w) (F1 s w)
+      (λ k l. ap (λ (h : Holds). safeHeld h (tableOf s (activeOf s w) .plain) (tableOf s (activeOf s w) .named) (tableOf s (activeOf s w) .count) v)
+      (table-holds ∙ reckoned-clash (F0 s w) (F1 s w) k l) ∙ sym (clash-unsafe s w v ok k (l .off) (l .on)))
+      (λ free. safe-free free v)
 
   pub table-walk : (request : ℕ) → walkIn (tableOf s (activeOf s w)) request ≡ walk s w request
   unfolding walk
-  table-walk request = λ i. walkBy (fun-ext table-safe i) (fun-ext table-pass i) (table-limit i) (table-start request i) 0
+  table-walk request =
+      by-reckoned (F0 s w) (F1 s w)
+      (λ k l. let t = tableOf s (activeOf s w) in
+      let e = reckoned-clash (F0 s w) (F1 s w) k l in
+      ap (walkHeld (safeIn t) (passIn t) (t .limit) request) (table-holds ∙ e) ∙ sym (ap (walkHeld (safe s w) (pass s w) (passLimit s w) request) e))
+      (λ free. walk-free free request)
+
+  -- at a clash no vector is safe
+  pub table-clash : (k : ℕ) → tableOf s (activeOf s w) .holds ≡ Clash k → (v : ℕ) → safe s w v ≡ false
+  table-clash k e v = let l = reckoned-says (F0 s w) (F1 s w) (Clash k) (sym table-holds ∙ e) in clash-unsafe s w v ok k (l .off) (l .on)
+
+  -- and no pass is allowed
+  pub table-stopped : (k : ℕ) → tableOf s (activeOf s w) .holds ≡ Clash k → tableOf s (activeOf s w) .limit ≡ 0
+  unfolding unheldIn popcount onesIn
+  table-stopped k e =
+      ap (λ (t : Table). t .limit) table-is ∙ formed .limit-is ∙ ap (λ (h : Holds). limitBy (unheldIn s h)) (sym table-holds ∙ e)
+
+  -- where the table has the two words of forced outputs
+  module _ (f0 f1 : ℕ) (forced : tableOf s (activeOf s w) .holds ≡ Forced f0 f1) where
+    masks-are : (F0 s w ≡ f0) × (F1 s w ≡ f1) × NoneBoth (F0 s w) (F1 s w)
+    masks-are = reckoned-says (F0 s w) (F1 s w) (Forced f0 f1) (sym table-holds ∙ forced)
+
+    pub table-start : (request : ℕ) → startFrom f0 f1 request ≡ startVector s w request
+    unfolding startVector
+    table-start request = sym (λ i. startFrom (masks-are .0 i) (masks-are .1 i) request)
+
+    pub table-limit : tableOf s (activeOf s w) .limit ≡ passLimit s w
+    table-limit = limit-free (masks-are .2)
+
+    pub table-pass : (v : ℕ) → passIn (tableOf s (activeOf s w)) v ≡ pass s w v
+    table-pass = pass-free (masks-are .2)
 
 -- two words with the same active constraints have the same safe vectors and the same walks
 module _ (s : Set) (ok : wellFormed s ≡ true) (u w : ℕ) (same : activeOf s u ≡ activeOf s w) where

@@ -1,5 +1,5 @@
 -- Walks: the executable walk finds the first safe vector if there is one, and looking at 2 ^ f vectors is enough to tell: a walk that is not
--- safe after 2 ^ f - 1 passes never is.
+-- safe after 2 ^ f - 1 passes never is. At a clash it is not begun, and would find nothing.
 -- Assumes nothing.
 use mathlib.Core.Path.{_≡_, sym, ap, _∙_, subst}
 use mathlib.Core.Bool.{Bool, true, false, cond}
@@ -9,7 +9,7 @@ use native.Mathlib.Numerals.{add-one}
 use native.Mathlib.Decide.{ℕ-discrete, decLt}
 use lib.Pow.{pow-pos}
 use Rattle.scan.specs.declared.walk.Walk.the-variants.{Safe, Never}
-use Rattle.scan.specs.Walk.{walkBy, walk, after, Reaches, FirstSafe, safeAfter, passesDue, vectorDue}
+use Rattle.scan.specs.Walk.{walkBy, walkHeld, walk, after, Reaches, FirstSafe, safeAfter, passesDue, vectorDue}
 use Rattle.words.specs.Word.{popcount}
 use Rattle.words.specs.Loop.{iterate, first}
 use Rattle.words.proofs.BoolLaws.{by-test, clash}
@@ -19,9 +19,11 @@ use Rattle.scan.specs.declared.set.Set.{Set}
 use Rattle.scan.specs.declared.walk.Walk.{Walk}
 use Rattle.scan.specs.Shape.{wellFormed}
 use Rattle.scan.specs.Constraint.{safe}
-use Rattle.scan.specs.Holds.{unheld, unheldCount, startVector}
+use Rattle.scan.specs.Holds.{F0, F1, unheld, unheldCount, passLimit, startVector}
 use Rattle.scan.specs.Pass.{pass}
 use Rattle.scan.proofs.ShapeLaws.{wide}
+use Rattle.scan.proofs.HoldsLaws.{reckoned-clash, reckoned-forced, by-reckoned}
+use Rattle.scan.proofs.SafeLaws.{clash-unsafe}
 use Rattle.scan.proofs.PassLaws.{after-lt, after-agrees}
 
 -- ---- one pass more, by any safety and any pass
@@ -76,15 +78,25 @@ module _ (s : Set) (w request : ℕ) where
   from-never (suc left) k f =
       by-more (safe s w) (pass s w) left (after s w request k) k (f k (omega arith)) ∙ from-never left (suc k) (λ j h. f j (omega arith))
 
-  -- a first safe vector within the limit is what the walk finds
-  pub walk-safe : (k : ℕ) → k < 2 ^ unheldCount s w → FirstSafe s w request k → walk s w request ≡ Safe (after s w request k) k
-  unfolding walk after iterate
-  walk-safe k h f = from-safe (2 ^ unheldCount s w - 1) 0 k (omega arith) (omega arith) f
+  module _ (ok : wellFormed s ≡ true) where
+    -- the walk is that from the start vector, clash or not: at a clash no vector is safe, and that one finds none either
+    pub walk-is : walk s w request ≡ walkBy (safe s w) (pass s w) (passLimit s w) (startVector s w request) 0
+    unfolding walk startVector after iterate
+    walk-is =
+        by-reckoned (F0 s w) (F1 s w)
+        (λ k l. ap (walkHeld (safe s w) (pass s w) (passLimit s w) request) (reckoned-clash (F0 s w) (F1 s w) k l)
+        ∙ sym (from-never (passLimit s w) 0 (λ j h. clash-unsafe s w (after s w request j) ok k (l .off) (l .on))))
+        (λ n. ap (walkHeld (safe s w) (pass s w) (passLimit s w) request) (reckoned-forced (F0 s w) (F1 s w) n))
 
-  -- and with none among the first 2 ^ f vectors it gives up
-  pub walk-never : ((k : ℕ) → k < 2 ^ unheldCount s w → safe s w (after s w request k) ≡ false) → walk s w request ≡ Never
-  unfolding walk after iterate
-  walk-never f = from-never (2 ^ unheldCount s w - 1) 0 (λ j h. f j (omega (arith, pow-pos (unheldCount s w))))
+    -- a first safe vector within the limit is what the walk finds
+    pub walk-safe : (k : ℕ) → k < 2 ^ unheldCount s w → FirstSafe s w request k → walk s w request ≡ Safe (after s w request k) k
+    unfolding after iterate
+    walk-safe k h f = walk-is ∙ from-safe (2 ^ unheldCount s w - 1) 0 k (omega arith) (omega arith) f
+
+    -- and with none among the first 2 ^ f vectors it gives up
+    pub walk-never : ((k : ℕ) → k < 2 ^ unheldCount s w → safe s w (after s w request k) ≡ false) → walk s w request ≡ Never
+    unfolding after iterate
+    walk-never f = walk-is ∙ from-never (2 ^ unheldCount s w - 1) 0 (λ j h. f j (omega (arith, pow-pos (unheldCount s w))))
 
   -- the passes due are those before the first safe vector
   pub due-is : (k : ℕ) → k < 2 ^ unheldCount s w → FirstSafe s w request k → passesDue s w request ≡ k
@@ -122,7 +134,7 @@ module _ (s : Set) (ok : wellFormed s ≡ true) (w request : ℕ) (fits : reques
 
   -- a walk that is not safe within 2 ^ f - 1 passes never is
   pub walk-endless : ¬ Reaches s w request → walk s w request ≡ Never
-  walk-endless nr = walk-never s w request (λ k h. by-test (safe s w (after s w request k)) (λ e. absurd (nr (k, e))) (λ e. e))
+  walk-endless nr = walk-never s w request ok (λ k h. by-test (safe s w (after s w request k)) (λ e. absurd (nr (k, e))) (λ e. e))
 
   -- whether a walk reaches a safe vector can be told
   pub reaches-or-never : Dec (Reaches s w request)
@@ -152,7 +164,7 @@ module _ (s : Set) (ok : wellFormed s ≡ true) (w request : ℕ) (fits : reques
       let e = due-is s w request (l .0) (l .1) (l .2) in
       let f = subst (FirstSafe s w request) (sym e) (l .2) in
       let h = subst (λ (k : ℕ). k < 2 ^ unheldCount s w) (sym e) (l .1) in
-      record { walked = walk-safe s w request (passesDue s w request) h f; soon-enough = h; first-safe = f }
+      record { walked = walk-safe s w request ok (passesDue s w request) h f; soon-enough = h; first-safe = f }
 
 -- ---- walks that meet
 

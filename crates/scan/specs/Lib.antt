@@ -6,5 +6,6 @@ pub mod Active
 pub mod Holds
 pub mod Pass
 pub mod Walk
+pub mod Told
 pub mod Samples
 pub mod way

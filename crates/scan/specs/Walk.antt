@@ -5,10 +5,12 @@ use Prim.Native.Nat.{ℕ, zero, suc, _<_, _^_}
 use mathlib.Core.Bool.{Bool, true, false, cond}
 use Rattle.words.specs.Loop.{iterate, first}
 use Rattle.scan.specs.declared.set.Set.{Set}
+use Rattle.scan.specs.declared.holds.Holds.{Holds}
+use Rattle.scan.specs.declared.holds.Holds.the-variants.{Forced, Clash}
 use Rattle.scan.specs.declared.walk.Walk.{Walk}
 use Rattle.scan.specs.declared.walk.Walk.the-variants.{Safe, Never}
 use Rattle.scan.specs.Constraint.{safe}
-use Rattle.scan.specs.Holds.{unheldCount, passLimit, startVector}
+use Rattle.scan.specs.Holds.{holdsOf, unheldCount, passLimit, startFrom, startVector}
 use Rattle.scan.specs.Pass.{pass}
 
 -- from the vector v, after `made` passes and with at most `left` more: the first safe vector and its passes
@@ -18,9 +20,14 @@ walkBy ok next (suc left) v made =
     let more = walkBy ok next left (next v) (suc made) in
     cond (ok v) (Safe v made) more
 
+-- from a request, by the reckoning of holds: from the start vector; where an output is forced both ways no pass is made
+abbrev pub walkHeld : (ℕ → Bool) → (ℕ → ℕ) → ℕ → ℕ → Holds → Walk
+walkHeld ok next limit request (Forced f0 f1) = walkBy ok next limit (startFrom f0 f1 request) 0
+walkHeld ok next limit request (Clash k) = Never
+
 -- the walk from a request
 unfoldable pub walk : Set → ℕ → ℕ → Walk
-walk s w request = walkBy (safe s w) (pass s w) (passLimit s w) (startVector s w request) 0
+walk s w request = walkHeld (safe s w) (pass s w) (passLimit s w) request (holdsOf s w)
 
 -- ---- what the walk does, with no bound on its passes
 

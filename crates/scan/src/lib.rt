@@ -28,6 +28,7 @@ pub use eight::safe_byte;
 pub use entries::Entries;
 pub use entries::enter;
 pub use holds::Holds;
+pub use holds::hold;
 pub use holds::start_vector;
 pub use set::Constraint;
 pub use set::Kind;

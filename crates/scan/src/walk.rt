@@ -3,7 +3,7 @@ use super::table::Table;
 use super::table::is_safe;
 use super::table::pass_over;
 ghost use mathlib.Core.Path.{_≡_};
-ghost use Rattle.scan.specs.way.Table.{safeIn, passIn};
+ghost use Rattle.scan.specs.way.Table.{safeOver, passIn};
 ghost use Rattle.scan.specs.Walk.{walkBy};
 
 // Where a walk ends: at a safe vector, with the passes made before it; or nowhere.
@@ -12,12 +12,10 @@ pub enum Walk {
     Never,
 }
 
-// The walk over a table from the vector `from`, of at most `limit` passes.
-pub fn walk_over(t: Table, from: u16, limit: u16) -> Walk
-    ensures { λ r. ⌜ r ≡ walkBy (safeIn t) (passIn t) limit from 0 ⌝ }
+// The walk over a table's entries from the vector `from`, of at most `limit` passes, where these outputs are forced.
+pub fn walk_over(t: Table, f0: u16, f1: u16, from: u16, limit: u16) -> Walk
+    ensures { λ r. ⌜ r ≡ walkBy (safeOver f0 f1 (t .plain) (t .named) (t .count)) (passIn t) limit from 0 ⌝ }
 {
-    let f0 = t.holds.f0;
-    let f1 = t.holds.f1;
     let count = t.count;
     let mut v = from;
     let mut made: u16 = 0;

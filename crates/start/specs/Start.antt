@@ -5,7 +5,7 @@ use Rattle.scan.specs.declared.set.Set.{Set}
 use Rattle.scan.specs.declared.set.State.{State}
 use Rattle.scan.specs.Set.{freshState, zeroState}
 use Rattle.verdict.specs.declared.verdict.Verdict.{Verdict}
-use Rattle.verdict.specs.declared.verdict.Verdict.the-variants.{Accepted, BadSet, ShortScratch, NoVector, NoEnd}
+use Rattle.verdict.specs.declared.verdict.Verdict.the-variants.{Accepted, BadSet, ShortScratch, NoVector, Clash, NoEnd}
 use Rattle.start.specs.declared.starting.Started.{Started}
 use Rattle.verdict.specs.Judge.{judgeOf}
 
@@ -16,6 +16,7 @@ startState s Accepted = freshState s
 startState s BadSet = zeroState
 startState s ShortScratch = zeroState
 startState s (NoVector w) = zeroState
+startState s (Clash w k) = zeroState
 startState s (NoEnd w g) = zeroState
 
 -- the verdict, and the state

@@ -52,6 +52,7 @@ fn mix_verdict(sum: u32, v: Verdict) -> u32 {
     let told = mix8(sum, verdict::number_of(v));
     match v {
         Verdict::NoVector { word } => mix(told, word),
+        Verdict::Clash { word, output } => mix16(mix(told, word), output),
         Verdict::NoEnd { word, request } => mix16(mix(told, word), request),
         _ => told,
     }

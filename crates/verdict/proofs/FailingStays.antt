@@ -12,10 +12,10 @@ use Rattle.scan.specs.declared.set.Set.{Set}
 use Rattle.scan.specs.Shape.{wellFormed}
 use Rattle.scan.specs.Constraint.{HasSafe}
 use Rattle.verdict.specs.declared.verdict.Verdict.{Verdict}
-use Rattle.verdict.specs.declared.verdict.Verdict.the-variants.{Accepted, BadSet, ShortScratch, NoVector, NoEnd}
+use Rattle.verdict.specs.declared.verdict.Verdict.the-variants.{Accepted, BadSet, ShortScratch, NoVector, Clash, NoEnd}
 use Rattle.verdict.specs.Judge.{lacks, judgeWords}
 use Rattle.verdict.specs.FirstFailing.{firstFailing}
-use Rattle.verdict.specs.Meaning.{FailsWithout, FailsEndless, MeansFailing}
+use Rattle.verdict.specs.Meaning.{FirstWithout, FailsWithout, FailsEndless, MeansFailing}
 use Rattle.verdict.proofs.WordTests.{has-lacks, lacks-has}
 use Rattle.verdict.proofs.FirstFailingLaws.{failing-means}
 use Rattle.verdict.proofs.MeaningLaws.{means-words}
@@ -23,9 +23,9 @@ use Rattle.verdict.proofs.MeaningLaws.{means-words}
 module _ (s : Set) (ok : wellFormed s ≡ true) where
   -- ---- by what the first word that fails tells
 
-  -- 22 there stays
-  pub still-without : (w : ℕ) → FailsWithout s w → judgeWords s ≡ NoVector w
-  still-without w f = means-words s ok (NoVector w) (record { within = f .within; before = λ u h. f .before u h .vector; none = f .none })
+  -- 22 and 58 there stay
+  pub still-without : (w : ℕ) → FailsWithout s w → FirstWithout s w
+  still-without w f = record { within = f .within; before = λ u h. f .before u h .vector; none = f .none }
 
   -- 23 stays where every word has a safe vector
   pub still-endless : (w g : ℕ) → FailsEndless s w g → ((u : ℕ) → u < 2 ^ s .r → HasSafe s u) → judgeWords s ≡ NoEnd w g
@@ -49,7 +49,8 @@ module _ (s : Set) (ok : wellFormed s ≡ true) where
     where
       go : (v : Verdict) → MeansFailing s v → ((w g : ℕ) → v ≢ NoEnd w g) → v ≡ judgeWords s
       go Accepted m n = sym (means-words s ok Accepted m)
-      go (NoVector w) m n = sym (still-without w m)
+      go (NoVector w) m n = sym (means-words s ok (NoVector w) (still-without w (m .0), m .1))
+      go (Clash w k) m n = sym (means-words s ok (Clash w k) (still-without w (m .0), m .1))
       go (NoEnd w g) m n = absurd (n w g refl)
       go BadSet m n = absurd m
       go ShortScratch m n = absurd m

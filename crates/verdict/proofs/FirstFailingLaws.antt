@@ -12,12 +12,14 @@ use Rattle.words.proofs.LoopLaws.{some-true, some-false, some-false-at, some-fi
 use Rattle.scan.specs.declared.set.Set.{Set}
 use Rattle.scan.specs.Shape.{wellFormed}
 use Rattle.scan.specs.Constraint.{hasVector}
+use Rattle.scan.specs.Holds.{F0, F1}
+use Rattle.scan.proofs.HoldsLaws.{by-reckoned}
 use Rattle.verdict.specs.declared.verdict.Verdict.{Verdict}
-use Rattle.verdict.specs.declared.verdict.Verdict.the-variants.{Accepted, BadSet, ShortScratch, NoVector, NoEnd}
-use Rattle.verdict.specs.Judge.{endless}
+use Rattle.verdict.specs.declared.verdict.Verdict.the-variants.{Accepted, BadSet, ShortScratch, NoVector, Clash, NoEnd}
+use Rattle.verdict.specs.Judge.{endless, noneAt}
 use Rattle.verdict.specs.FirstFailing.{fails, rejectionBy, rejection, verdictAt, firstFailing}
 use Rattle.verdict.specs.Meaning.{Good, FailsWithout, FailsEndless, MeansFailing}
-use Rattle.verdict.proofs.WordTests.{has-vector, vector-of, no-vector, ends-of, endless-of, reaches-of, never-of}
+use Rattle.verdict.proofs.WordTests.{has-vector, vector-of, no-vector, none-clash, none-free, ends-of, endless-of, reaches-of, never-of}
 
 module _ (s : Set) where
   -- ---- by its tests: what the nested loops over words and requests need
@@ -30,7 +32,7 @@ module _ (s : Set) where
   unfolding firstFailing verdictAt
   failing-rejected w h b e = ap (verdictAt s) (first-is (2 ^ s .r) w (fails s) h e b) ∙ rw (lt-ltb w (2 ^ s .r) h)
 
-  pub failing-no-vector : (w : ℕ) → w < 2 ^ s .r → ((u : ℕ) → u < w → fails s u ≡ false) → hasVector s w ≡ false → firstFailing s ≡ NoVector w
+  pub failing-no-vector : (w : ℕ) → w < 2 ^ s .r → ((u : ℕ) → u < w → fails s u ≡ false) → hasVector s w ≡ false → firstFailing s ≡ noneAt s w
   unfolding rejection rejectionBy fails
   failing-no-vector w h b e = failing-rejected w h b (ap (λ (x : Bool). not x || some (2 ^ s .n) (endless s w)) e) ∙ rw e
 
@@ -64,7 +66,7 @@ module _ (s : Set) where
 
     -- ---- by what it means
 
-    no-vectors : (w : ℕ) → FailsWithout s w → firstFailing s ≡ NoVector w
+    no-vectors : (w : ℕ) → FailsWithout s w → firstFailing s ≡ noneAt s w
     no-vectors w f = failing-no-vector w (f .within) (λ u l. good-passes u (f .before u l)) (no-vector s w (f .none))
 
     no-ends : (w g : ℕ) → FailsEndless s w g → firstFailing s ≡ NoEnd w g
@@ -74,7 +76,8 @@ module _ (s : Set) where
 
     pub failing-of : (v : Verdict) → MeansFailing s v → firstFailing s ≡ v
     failing-of Accepted m = failing-accepted (λ w h. good-passes w (m w h))
-    failing-of (NoVector w) m = no-vectors w m
+    failing-of (NoVector w) m = no-vectors w (m .0) ∙ none-free s w (m .1)
+    failing-of (Clash w k) m = no-vectors w (m .0) ∙ none-clash s w k (m .1)
     failing-of (NoEnd w g) m = no-ends w g m
     failing-of BadSet m = absurd m
     failing-of ShortScratch m = absurd m
@@ -100,7 +103,9 @@ module _ (s : Set) where
             )
 
         none-safe : hasVector s w ≡ false → (v : Verdict) × MeansFailing s v
-        none-safe q = (NoVector w, record { within = h; before = b; none = λ v. clash (has-vector s w v) q })
+        none-safe q =
+            let f : FailsWithout s w = record { within = h; before = b; none = λ v. clash (has-vector s w v) q } in
+            by-reckoned (F0 s w) (F1 s w) (λ k l. (Clash w k, (f, l))) (λ n. (NoVector w, (f, n)))
 
     some-meaning : (v : Verdict) × MeansFailing s v
     some-meaning = go (first (2 ^ s .r) (fails s)) (first-spec (2 ^ s .r) (fails s))

@@ -10,13 +10,13 @@ use Rattle.words.proofs.BoolLaws.{by-test}
 use Rattle.scan.specs.declared.set.Set.{Set}
 use Rattle.scan.specs.Shape.{wellFormed}
 use Rattle.scan.specs.Constraint.{safe, HasSafe}
-use Rattle.scan.specs.Holds.{startFrom, startVector}
+use Rattle.scan.specs.Holds.{F0, F1, LowestBoth, NoneBoth, startFrom, startVector}
 use Rattle.scan.specs.Walk.{after, Reaches}
 use Rattle.scan.proofs.LoneRanks.{AlikeButLone, F0-alike, F1-alike, safe-alike, pass-alike}
 use Rattle.verdict.specs.declared.verdict.Verdict.{Verdict}
-use Rattle.verdict.specs.declared.verdict.Verdict.the-variants.{Accepted, BadSet, ShortScratch, NoVector, NoEnd}
+use Rattle.verdict.specs.declared.verdict.Verdict.the-variants.{Accepted, BadSet, ShortScratch, NoVector, Clash, NoEnd}
 use Rattle.verdict.specs.Judge.{scratchBytes, judgeOf}
-use Rattle.verdict.specs.Meaning.{Good, Means}
+use Rattle.verdict.specs.Meaning.{Good, FirstWithout, Means}
 use Rattle.verdict.proofs.MeaningLaws.{verdict-means, verdict-of}
 use Rattle.verdict.proofs.JudgeLaws.{bad-set, short-scratch}
 
@@ -48,13 +48,18 @@ module _ (s t : Set) (a : AlikeButLone s t) where
     ends = λ request h. reaches-there w request (g .ends request (subst (λ (n : ℕ). request < 2 ^ n) (sym (a .n-same)) h));
   }
 
-  means-there : (v : Verdict) → Means s v → Means t v
-  means-there Accepted m = λ w h. good-there w (m w (subst (λ (r : ℕ). w < 2 ^ r) (sym (a .r-same)) h))
-  means-there (NoVector w) m = record {
+  without-there : (w : ℕ) → FirstWithout s w → FirstWithout t w
+  without-there w m = record {
     within = subst (λ (r : ℕ). w < 2 ^ r) (a .r-same) (m .within);
     before = λ u h. safe-there u (m .before u h);
     none = λ h. m .none (safe-back w h);
   }
+
+  means-there : (v : Verdict) → Means s v → Means t v
+  means-there Accepted m = λ w h. good-there w (m w (subst (λ (r : ℕ). w < 2 ^ r) (sym (a .r-same)) h))
+  means-there (NoVector w) m = (without-there w (m .0), subst (λ (f : ℕ). NoneBoth f (F1 t w)) (F0-alike s t a w) (subst (NoneBoth (F0 s w)) (F1-alike s t a w) (m .1)))
+  means-there (Clash w k) m =
+      (without-there w (m .0), subst (λ (f : ℕ). LowestBoth f (F1 t w) k) (F0-alike s t a w) (subst (λ (f : ℕ). LowestBoth (F0 s w) f k) (F1-alike s t a w) (m .1)))
   means-there (NoEnd w g) m = record {
     within = subst (λ (r : ℕ). w < 2 ^ r) (a .r-same) (m .within);
     vectors = λ u h. safe-there u (m .vectors u (subst (λ (r : ℕ). u < 2 ^ r) (sym (a .r-same)) h));

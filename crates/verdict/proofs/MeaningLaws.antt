@@ -12,19 +12,21 @@ use Rattle.words.proofs.LoopLaws.{some-first, First, first-spec, first-is, firs
 use Rattle.scan.specs.declared.set.Set.{Set}
 use Rattle.scan.specs.Shape.{wellFormed}
 use Rattle.scan.specs.Constraint.{HasSafe}
+use Rattle.scan.specs.Holds.{F0, F1}
 use Rattle.scan.specs.Walk.{Reaches}
+use Rattle.scan.proofs.HoldsLaws.{by-reckoned}
 use Rattle.verdict.specs.declared.verdict.Verdict.{Verdict}
-use Rattle.verdict.specs.declared.verdict.Verdict.the-variants.{Accepted, BadSet, ShortScratch, NoVector, NoEnd}
-use Rattle.verdict.specs.Judge.{endless, lacks, hasEndless, vectorAt, endlessAt, judgeWords, scratchBytes, judgeOf}
+use Rattle.verdict.specs.declared.verdict.Verdict.the-variants.{Accepted, BadSet, ShortScratch, NoVector, Clash, NoEnd}
+use Rattle.verdict.specs.Judge.{endless, lacks, hasEndless, noneAt, vectorAt, endlessAt, judgeWords, scratchBytes, judgeOf}
 use Rattle.verdict.specs.Meaning.{Good, FirstWithout, FirstEndless, Means, Bad}
 use Rattle.verdict.proofs.JudgeLaws.{judged}
-use Rattle.verdict.proofs.WordTests.{has-lacks, lacks-has, none-lacks, lacks-none, ends-of, endless-of, reaches-of, never-of, all-end, end-all, one-never}
+use Rattle.verdict.proofs.WordTests.{has-lacks, lacks-has, none-lacks, lacks-none, none-clash, none-free, ends-of, endless-of, reaches-of, never-of, all-end, end-all, one-never}
 
 module _ (s : Set) where
   -- ---- the verdict on the words, by its first tests
 
   -- a first word without a safe vector rejects the set
-  pub judge-without : (w : ℕ) → w ≡ first (2 ^ s .r) (lacks s) → w < 2 ^ s .r → judgeWords s ≡ NoVector w
+  pub judge-without : (w : ℕ) → w ≡ first (2 ^ s .r) (lacks s) → w < 2 ^ s .r → judgeWords s ≡ noneAt s w
   unfolding judgeWords vectorAt
   judge-without w e h = rw (sym e, lt-ltb w (2 ^ s .r) h)
 
@@ -36,7 +38,7 @@ module _ (s : Set) where
   module _ (ok : wellFormed s ≡ true) where
     -- ---- and by what it means
 
-    no-vectors : (w : ℕ) → FirstWithout s w → judgeWords s ≡ NoVector w
+    pub no-vectors : (w : ℕ) → FirstWithout s w → judgeWords s ≡ noneAt s w
     no-vectors w f =
         judge-without w (sym (first-is (2 ^ s .r) w (lacks s) (f .within) (none-lacks s w (f .none)) (λ u l. has-lacks s u (f .before u l)))) (f .within)
 
@@ -60,7 +62,8 @@ module _ (s : Set) where
     -- whatever verdict's meaning holds is the verdict on the words
     pub means-words : (v : Verdict) → Means s v → judgeWords s ≡ v
     means-words Accepted m = all-good m
-    means-words (NoVector w) m = no-vectors w m
+    means-words (NoVector w) m = no-vectors w (m .0) ∙ none-free s w (m .1)
+    means-words (Clash w k) m = no-vectors w (m .0) ∙ none-clash s w k (m .1)
     means-words (NoEnd w g) m = no-ends w g m
     means-words BadSet m = absurd m
     means-words ShortScratch m = absurd m
@@ -89,7 +92,9 @@ module _ (s : Set) where
         missing w f = told (decLt w (2 ^ s .r))
           where
             told : Dec (w < 2 ^ s .r) → (v : Verdict) × Means s v
-            told (yes h) = (NoVector w, record { within = h; before = λ u l. lacks-has s u (f .before u l); none = lacks-none s w (f .here h) })
+            told (yes h) =
+                let first : FirstWithout s w = record { within = h; before = λ u l. lacks-has s u (f .before u l); none = lacks-none s w (f .here h) } in
+                by-reckoned (F0 s w) (F1 s w) (λ k l. (Clash w k, (first, l))) (λ n. (NoVector w, (first, n)))
             told (no nh) =
                 let e = first (2 ^ s .r) (hasEndless s) in
                 ending (λ u l. lacks-has s u (f .before u (omega arith))) e (first-spec (2 ^ s .r) (hasEndless s)) (decLt e (2 ^ s .r))
@@ -111,7 +116,8 @@ module _ (s : Set) where
         where
           bad : (v : Verdict) → Means s v → judgeOf s room ≢ Accepted → Bad s
           bad Accepted m n = absurd (n (verdict-of Accepted m))
-          bad (NoVector w) m n = (w, m .within, inl (m .none))
+          bad (NoVector w) m n = (w, m .0 .within, inl (m .0 .none))
+          bad (Clash w k) m n = (w, m .0 .within, inl (m .0 .none))
           bad (NoEnd w g) m n = (w, m .within, inr (g, m .fits, m .never))
           bad BadSet m n = absurd m
           bad ShortScratch m n = absurd m

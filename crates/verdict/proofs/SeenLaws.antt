@@ -93,7 +93,7 @@ module _ (s : Set) (ok : wellFormed s ≡ true) where
   idle w e =
       passes s w (some-true (2 ^ s .n) (safe s w) 0 (pow-pos (s .n)) (idle-safe w e 0))
       (λ g h. ap isNever
-      (walk-safe s w g 0 (pow-pos (unheldCount s w)) (record { here = idle-safe w e (after s w g 0); before = λ j l. absurd (omega arith) })))
+      (walk-safe s w g ok 0 (pow-pos (unheldCount s w)) (record { here = idle-safe w e (after s w g 0); before = λ j l. absurd (omega arith) })))
 
   -- zeros are the masks of words where no constraint is active
   pub known-none : Known s (fails s) (replicate places 0)

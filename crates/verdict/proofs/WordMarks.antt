@@ -12,19 +12,21 @@ use lib.Pow.{pow-pos}
 use borrow.Author.Tests.{eqb-true, ltb-true, ltb-false, not-true, not-false}
 use Rattle.words.specs.Loop.{some, iterate}
 use Rattle.words.proofs.BoolLaws.{by-test, clash, or-true, or-left}
-use Rattle.words.proofs.LoopLaws.{First, first-spec, listed-long}
+use Rattle.words.proofs.LoopLaws.{First, first-spec, listed-long, some-false}
 use Rattle.words.proofs.Orbit.{iterate-add}
 use Rattle.scan.specs.declared.set.Set.{Set}
 use Rattle.scan.specs.Shape.{wellFormed}
 use Rattle.scan.specs.Constraint.{safe, hasVector}
 use Rattle.scan.specs.Active.{activeOf}
 use Rattle.scan.specs.declared.table.Table.{Table}
+use Rattle.scan.specs.declared.holds.Holds.{Holds}
+use Rattle.scan.specs.declared.holds.Holds.the-variants.{Forced, Clash}
 use Rattle.scan.specs.Holds.{unheldCount, passLimit, startFrom, startVector}
-use Rattle.scan.specs.way.Table.{tableOf, safeIn, passIn}
+use Rattle.scan.specs.way.Table.{tableOf, safeOver, safeHeld, safeIn, passIn}
 use Rattle.scan.specs.Pass.{pass}
 use Rattle.scan.specs.Walk.{after, Reaches}
 use Rattle.scan.proofs.PassLaws.{after-lt}
-use Rattle.scan.proofs.TableLaws.{table-safe, table-pass, table-start, table-limit}
+use Rattle.scan.proofs.TableLaws.{table-safe, table-clash, table-pass, table-start, table-limit}
 use Rattle.scan.proofs.WalkLaws.{ReachesFrom, safe-reaches, meets-reaches, walk-due, walk-never}
 use Rattle.verdict.specs.Judge.{isNever, endless, scratchBytes}
 use Rattle.verdict.specs.way.Marks.{marked, withMark, markByte, markedWhere}
@@ -118,7 +120,7 @@ module _ (s : Set) (ok : wellFormed s ≡ true) (w : ℕ) where
     comes-endless =
         by-test (comesToMark (pass s w) marks (passLimit s w) (startVector s w g))
         (λ e. e ∙ sym (ap (λ x. not (isNever x)) (walk-due s ok w g fits (comes-reaches e) .walked)))
-        (λ e. e ∙ sym (ap (λ x. not (isNever x)) (walk-never s w g (not-comes e))))
+        (λ e. e ∙ sym (ap (λ x. not (isNever x)) (walk-never s w g ok (not-comes e))))
 
     pub ready-settled : Ready s w (settled (pass s w) (passLimit s w) (startVector s w g) marks)
     unfolding settled after
@@ -131,27 +133,39 @@ module _ (s : Set) (ok : wellFormed s ≡ true) (w : ℕ) where
 -- ---- by the table of the active constraints
 
 module _ (s : Set) (ok : wellFormed s ≡ true) (w : ℕ) (t : Table) (et : t ≡ tableOf s (activeOf s w)) where
-  safe-is : safeIn t ≡ safe s w
-  safe-is = fun-ext (λ v. ap (λ (x : Table). safeIn x v) et ∙ table-safe s w ok v)
-
-  pass-is : passIn t ≡ pass s w
-  pass-is = fun-ext (λ v. ap (λ (x : Table). passIn x v) et ∙ table-pass s w ok v)
-
-  -- once the safe vectors are marked, the marks are right, and it is told whether there is a safe vector
-  pub marked-safe : (b : Bool) (x : List ℕ) → b ≡ some (2 ^ s .n) (safeIn t) → x ≡ markedWhere (s .n) (safeIn t) → (b ≡ hasVector s w) × Ready s w x
+  -- at a clash no vector is safe
+  pub clash-none : (k : ℕ) → t .holds ≡ Clash k → hasVector s w ≡ false
   unfolding hasVector
-  marked-safe b x eb ex = (
-    eb ∙ ap (some (2 ^ s .n)) safe-is,
-    subst (Ready s w) (sym (ex ∙ ap (markedWhere (s .n)) safe-is)) (ready-safe s ok w),
-  )
+  clash-none k e = some-false (2 ^ s .n) (safe s w) (λ v h. table-clash s w ok k (ap (λ (y : Table). y .holds) (sym et) ∙ e) v)
 
-  -- settling a request tells whether its walk never is safe, and leaves the marks right
-  pub settled-request : (marks : List ℕ) → Ready s w marks → (g : ℕ) → g < 2 ^ s .n → (from : ℕ) → from ≡ startFrom (t .holds .f0) (t .holds .f1) g
-      → (b : Bool) (x : List ℕ) → b ≡ comesToMark (passIn t) marks (t .limit) from → x ≡ settled (passIn t) (t .limit) from marks
-      → (b ≡ not (endless s w g)) × Ready s w x
-  settled-request marks ready g fits from ef b x eb ex =
-      let start : from ≡ startVector s w g = ef ∙ ap (λ (y : Table). startFrom (y .holds .f0) (y .holds .f1) g) et ∙ table-start s w ok g in
-      let limit : t .limit ≡ passLimit s w = ap (λ (y : Table). y .limit) et ∙ table-limit s w ok in (
-        eb ∙ (λ i. comesToMark (pass-is i) marks (limit i) (start i)) ∙ comes-endless s ok w marks ready g fits,
-        subst (Ready s w) (sym (ex ∙ (λ i. settled (pass-is i) (limit i) (start i) marks))) (ready-settled s ok w marks ready g fits),
-      )
+  -- where the two words of forced outputs are told
+  module _ (f0 f1 : ℕ) (forced : t .holds ≡ Forced f0 f1) where
+    table-forced : tableOf s (activeOf s w) .holds ≡ Forced f0 f1
+    table-forced = ap (λ (y : Table). y .holds) (sym et) ∙ forced
+
+    safe-is : safeOver f0 f1 (t .plain) (t .named) (t .count) ≡ safe s w
+    safe-is = fun-ext (λ v.
+        ap (λ (h : Holds). safeHeld h (t .plain) (t .named) (t .count) v) (sym forced) ∙ ap (λ (x : Table). safeIn x v) et ∙ table-safe s w ok v)
+
+    pass-is : passIn t ≡ pass s w
+    pass-is = fun-ext (λ v. ap (λ (x : Table). passIn x v) et ∙ table-pass s w ok f0 f1 table-forced v)
+
+    -- once the safe vectors are marked, the marks are right, and it is told whether there is a safe vector
+    pub marked-safe : (b : Bool) (x : List ℕ) → b ≡ some (2 ^ s .n) (safeOver f0 f1 (t .plain) (t .named) (t .count))
+        → x ≡ markedWhere (s .n) (safeOver f0 f1 (t .plain) (t .named) (t .count)) → (b ≡ hasVector s w) × Ready s w x
+    unfolding hasVector
+    marked-safe b x eb ex = (
+      eb ∙ ap (some (2 ^ s .n)) safe-is,
+      subst (Ready s w) (sym (ex ∙ ap (markedWhere (s .n)) safe-is)) (ready-safe s ok w),
+    )
+
+    -- settling a request tells whether its walk never is safe, and leaves the marks right
+    pub settled-request : (marks : List ℕ) → Ready s w marks → (g : ℕ) → g < 2 ^ s .n → (from : ℕ) → from ≡ startFrom f0 f1 g
+        → (b : Bool) (x : List ℕ) → b ≡ comesToMark (passIn t) marks (t .limit) from → x ≡ settled (passIn t) (t .limit) from marks
+        → (b ≡ not (endless s w g)) × Ready s w x
+    settled-request marks ready g fits from ef b x eb ex =
+        let start : from ≡ startVector s w g = ef ∙ table-start s w ok f0 f1 table-forced g in
+        let limit : t .limit ≡ passLimit s w = ap (λ (y : Table). y .limit) et ∙ table-limit s w ok f0 f1 table-forced in (
+          eb ∙ (λ i. comesToMark (pass-is i) marks (limit i) (start i)) ∙ comes-endless s ok w marks ready g fits,
+          subst (Ready s w) (sym (ex ∙ (λ i. settled (pass-is i) (limit i) (start i) marks))) (ready-settled s ok w marks ready g fits),
+        )

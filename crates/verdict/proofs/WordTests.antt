@@ -1,4 +1,5 @@
--- The tests of a read word, and what they mean: whether it has a safe vector, and whether the walk of a request, or of some request, never is safe there.
+-- The tests of a read word, and what they mean: whether it has a safe vector, what it is rejected by where it has none, and whether the walk of a request, or of some
+-- request, never is safe there.
 -- Assumes nothing.
 use mathlib.Core.Path.{_≡_, ap}
 use mathlib.Core.Bool.{true, false, not}
@@ -9,9 +10,12 @@ use Rattle.words.proofs.LoopLaws.{some-true, some-false, some-at, some-false-at
 use Rattle.scan.specs.declared.set.Set.{Set}
 use Rattle.scan.specs.Shape.{wellFormed}
 use Rattle.scan.specs.Constraint.{safe, hasVector, HasSafe}
+use Rattle.scan.specs.Holds.{F0, F1, LowestBoth, NoneBoth}
 use Rattle.scan.specs.Walk.{Reaches}
+use Rattle.scan.proofs.HoldsLaws.{reckoned-clash, reckoned-forced}
 use Rattle.scan.proofs.WalkLaws.{walk-due, walk-endless, reaches-or-never}
-use Rattle.verdict.specs.Judge.{isNever, endless, lacks, hasEndless}
+use Rattle.verdict.specs.declared.verdict.Verdict.the-variants.{NoVector, Clash}
+use Rattle.verdict.specs.Judge.{isNever, endless, lacks, hasEndless, noneBy, noneAt}
 
 module _ (s : Set) where
   -- ---- a safe vector
@@ -44,6 +48,16 @@ module _ (s : Set) where
 
   pub lacks-none : (w : ℕ) → lacks s w ≡ true → ¬ HasSafe s w
   lacks-none w e h = clash e (has-lacks w h)
+
+  -- ---- the rejection by a word that has none
+
+  pub none-clash : (w k : ℕ) → LowestBoth (F0 s w) (F1 s w) k → noneAt s w ≡ Clash w k
+  unfolding noneAt
+  none-clash w k l = ap (noneBy w) (reckoned-clash (F0 s w) (F1 s w) k l)
+
+  pub none-free : (w : ℕ) → NoneBoth (F0 s w) (F1 s w) → noneAt s w ≡ NoVector w
+  unfolding noneAt
+  none-free w n = ap (noneBy w) (reckoned-forced (F0 s w) (F1 s w) n)
 
   -- ---- walks that end
 

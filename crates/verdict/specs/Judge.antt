@@ -1,18 +1,22 @@
 -- The verdict on a set, every r-bit read word counting as possible: first all words are tried for one at which no vector is safe, then all for one with a
--- request whose walk never is safe, words and requests in rising order (change request K5).
+-- request whose walk never is safe, words and requests in rising order (change request K5). Of a word without a safe vector it names an output that is forced both
+-- ways there, if there is one (change request K10).
 -- Assumes nothing.
 use Prim.Native.Nat.{ℕ, _/_, _^_}
 use mathlib.Core.Bool.{Bool, true, false, cond, not}
 use lib.Dec.{ltb}
 use Rattle.words.specs.Loop.{some, first}
 use Rattle.scan.specs.declared.set.Set.{Set}
+use Rattle.scan.specs.declared.holds.Holds.{Holds}
+use Rattle.scan.specs.declared.holds.Holds.the-variants.{Forced, Clash as HoldsClash}
 use Rattle.scan.specs.declared.walk.Walk.{Walk}
 use Rattle.scan.specs.declared.walk.Walk.the-variants.{Safe, Never}
 use Rattle.scan.specs.Shape.{wellFormed}
 use Rattle.scan.specs.Constraint.{hasVector}
+use Rattle.scan.specs.Holds.{holdsOf}
 use Rattle.scan.specs.Walk.{walk}
 use Rattle.verdict.specs.declared.verdict.Verdict.{Verdict}
-use Rattle.verdict.specs.declared.verdict.Verdict.the-variants.{Accepted, BadSet, ShortScratch, NoVector, NoEnd}
+use Rattle.verdict.specs.declared.verdict.Verdict.the-variants.{Accepted, BadSet, ShortScratch, NoVector, Clash, NoEnd}
 
 -- a walk has no safe vector
 abbrev pub isNever : Walk → Bool
@@ -31,9 +35,17 @@ lacks s w = not (hasVector s w)
 unfoldable pub hasEndless : Set → ℕ → Bool
 hasEndless s w = some (2 ^ s .n) (endless s w)
 
--- 22 with the word w, if it is one of the set's words; else the verdict `otherwise`
+-- the rejection by a word w without a safe vector: 58 with the lowest output forced both ways, if the reckoning of holds there tells one; else 22
+abbrev pub noneBy : ℕ → Holds → Verdict
+noneBy w (Forced f0 f1) = NoVector w
+noneBy w (HoldsClash k) = Clash w k
+
+unfoldable pub noneAt : Set → ℕ → Verdict
+noneAt s w = noneBy w (holdsOf s w)
+
+-- 58 or 22 with the word w, if it is one of the set's words; else the verdict `otherwise`
 unfoldable pub vectorAt : Set → ℕ → Verdict → Verdict
-vectorAt s w otherwise = cond (ltb w (2 ^ s .r)) (NoVector w) otherwise
+vectorAt s w otherwise = let bad = noneAt s w in cond (ltb w (2 ^ s .r)) bad otherwise
 
 -- 23 with the word w and its first request whose walk never is safe, if w is one of the set's words; else the set is accepted
 unfoldable pub endlessAt : Set → ℕ → Verdict

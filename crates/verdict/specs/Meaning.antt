@@ -4,9 +4,10 @@ use mathlib.Core.Logic.{_⊎_}
 use Prim.Native.Nat.{ℕ, _^_, _<_}
 use Rattle.scan.specs.declared.set.Set.{Set}
 use Rattle.scan.specs.Constraint.{HasSafe}
+use Rattle.scan.specs.Holds.{F0, F1, LowestBoth, NoneBoth}
 use Rattle.scan.specs.Walk.{Reaches}
 use Rattle.verdict.specs.declared.verdict.Verdict.{Verdict}
-use Rattle.verdict.specs.declared.verdict.Verdict.the-variants.{Accepted, BadSet, ShortScratch, NoVector, NoEnd}
+use Rattle.verdict.specs.declared.verdict.Verdict.the-variants.{Accepted, BadSet, ShortScratch, NoVector, Clash, NoEnd}
 
 -- at the read word w some vector is safe, and the walk from every request reaches a safe one
 pub record Good (s : Set) (w : ℕ) : Type 0 where
@@ -31,7 +32,8 @@ pub record FirstEndless (s : Set) (w g : ℕ) : Type 0 where
 -- what a verdict says of the set; with a well-formed set and scratch enough, 20 and 21 are never right
 abbrev pub Means : Set → Verdict → Type 0
 Means s Accepted = (w : ℕ) → w < 2 ^ s .r → Good s w
-Means s (NoVector w) = FirstWithout s w
+Means s (NoVector w) = FirstWithout s w × NoneBoth (F0 s w) (F1 s w)
+Means s (Clash w k) = FirstWithout s w × LowestBoth (F0 s w) (F1 s w) k
 Means s (NoEnd w g) = FirstEndless s w g
 Means s BadSet = ⊥
 Means s ShortScratch = ⊥
@@ -60,7 +62,8 @@ pub record FailsEndless (s : Set) (w g : ℕ) : Type 0 where
 -- what the verdict in that order says of the set
 abbrev pub MeansFailing : Set → Verdict → Type 0
 MeansFailing s Accepted = (w : ℕ) → w < 2 ^ s .r → Good s w
-MeansFailing s (NoVector w) = FailsWithout s w
+MeansFailing s (NoVector w) = FailsWithout s w × NoneBoth (F0 s w) (F1 s w)
+MeansFailing s (Clash w k) = FailsWithout s w × LowestBoth (F0 s w) (F1 s w) k
 MeansFailing s (NoEnd w g) = FailsEndless s w g
 MeansFailing s BadSet = ⊥
 MeansFailing s ShortScratch = ⊥

@@ -3,12 +3,13 @@
 use Prim.Native.Nat.{ℕ}
 use mathlib.Core.List.{List, [], _∷_}
 use Rattle.verdict.specs.declared.verdict.Verdict.{Verdict}
-use Rattle.verdict.specs.declared.verdict.Verdict.the-variants.{Accepted, BadSet, ShortScratch, NoVector, NoEnd}
+use Rattle.verdict.specs.declared.verdict.Verdict.the-variants.{Accepted, BadSet, ShortScratch, NoVector, Clash, NoEnd}
 
--- the read word without a safe vector; the read word and the request whose walk never is safe
+-- the read word without a safe vector; that word and the output forced both ways; the read word and the request whose walk never is safe
 abbrev pub verdictTold : Verdict → List ℕ
 verdictTold Accepted = 0 ∷ []
 verdictTold BadSet = 20 ∷ []
 verdictTold ShortScratch = 21 ∷ []
 verdictTold (NoVector w) = 22 ∷ w ∷ []
+verdictTold (Clash w k) = 58 ∷ w ∷ k ∷ []
 verdictTold (NoEnd w g) = 23 ∷ w ∷ g ∷ []

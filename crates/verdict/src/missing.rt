@@ -1,9 +1,11 @@
-// The search for a read word without a safe vector.
+// The search for a read word without a safe vector, and the rejection by such a word.
 use super::marks::first_vectors;
 use super::marks::scratch_bytes;
 use super::seen::PLACES;
 use super::seen::is_seen;
 use super::seen::keep_seen;
+use super::verdict::Verdict;
+use scan::Holds;
 use scan::MOST_CONSTRAINTS;
 use scan::Set;
 use scan::active_high;
@@ -12,6 +14,7 @@ use scan::columns_of;
 use scan::eight_of;
 use scan::enter;
 use scan::high_at;
+use scan::hold;
 use scan::is_safe;
 use scan::low_held;
 use scan::lows_of;
@@ -24,7 +27,7 @@ ghost use Rattle.scan.specs.Set.{mostOutputs};
 ghost use Rattle.scan.specs.Shape.{wellFormed};
 ghost use Rattle.scan.specs.way.Table.{safeOver};
 ghost use Rattle.scan.specs.way.Eight.{safeByte};
-ghost use Rattle.verdict.specs.Judge.{lacks};
+ghost use Rattle.verdict.specs.Judge.{lacks, noneAt};
 ghost use Rattle.verdict.specs.way.Marks.{hasMark};
 ghost use Rattle.verdict.specs.way.Seen.{Known};
 
@@ -92,4 +95,16 @@ pub fn first_without(set: Set, from: u32, seen: &mut [u64; PLACES]) -> u32
         w = w + 1;
     }
     w
+}
+
+// The rejection by the word w, at which no vector is safe: with the lowest output that is forced both ways there, if there is one.
+pub fn none_at(set: Set, w: u32) -> Verdict
+    requires { ⌜ wellFormed set ≡ true ⌝ }
+    ensures { λ r. ⌜ r ≡ noneAt set w ⌝ }
+{
+    let holds = hold(set, w);
+    match holds {
+        Holds::Forced { f0: _, f1: _ } => Verdict::NoVector { word: w },
+        Holds::Clash { output } => Verdict::Clash { word: w, output },
+    }
 }

@@ -13,6 +13,7 @@ pub fn number_of(verdict: Verdict) -> u8
         Verdict::BadSet => 20,
         Verdict::ShortScratch => 21,
         Verdict::NoVector { word: _ } => 22,
+        Verdict::Clash { word: _, output: _ } => 58,
         Verdict::NoEnd {
             word: _,
             request: _,

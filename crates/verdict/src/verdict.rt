@@ -2,11 +2,13 @@
 use super::marks::mark_safe;
 use super::marks::scratch_bytes;
 use super::missing::first_without;
+use super::missing::none_at;
 use super::paths::TRAIL;
 use super::paths::settle;
 use super::seen::PLACES;
 use super::seen::is_seen;
 use super::seen::keep_seen;
+use scan::Holds;
 use scan::Set;
 use scan::active_in;
 use scan::build_by;
@@ -25,19 +27,21 @@ ghost use Rattle.verdict.specs.way.Paths.{trailPlaces};
 ghost use Rattle.verdict.specs.way.Seen.{Known};
 ghost use Rattle.verdict.specs.way.Left.{verdictBy};
 
-// Accepted, or why not: the first read word without a safe vector; or, where every word has one, the first word with a request whose walk never is safe, and its
-// first such request.
+// Accepted, or why not: the first read word without a safe vector, with the lowest output that simple constraints force both ways there, if there is one; or, where
+// every word has a safe vector, the first word with a request whose walk never is safe, and its first such request.
 pub enum Verdict {
     Accepted,
     BadSet,
     ShortScratch,
     NoVector { word: u32 },
+    Clash { word: u32, output: u16 },
     NoEnd { word: u32, request: u16 },
 }
 
 // The verdict by where the loops were left: accepted with all words passed; else the word w fails, with the request g if `any` says that it has a safe vector.
-fn told_by(words: u32, any: bool, w: u32, g: u16) -> Verdict
-    ensures { λ r. ⌜ r ≡ verdictBy words any w g ⌝ }
+fn told_by(set: Set, words: u32, any: bool, w: u32, g: u16) -> Verdict
+    requires { ⌜ wellFormed set ≡ true ⌝ }
+    ensures { λ r. ⌜ r ≡ verdictBy set words any w g ⌝ }
 {
     if words <= w {
         return Verdict::Accepted;
@@ -48,7 +52,7 @@ fn told_by(words: u32, any: bool, w: u32, g: u16) -> Verdict
             request: g,
         };
     }
-    Verdict::NoVector { word: w }
+    none_at(set, w)
 }
 
 // The first word that fails, and how, with a bit of scratch for each vector: document 01's loops. A word at which the same constraints are active as at a good
@@ -79,8 +83,11 @@ fn first_failing(
             continue 'words;
         }
         let t = build_by(set, &by.out_plain, &by.out_negated, by.simple, active);
-        let f0 = t.holds.f0;
-        let f1 = t.holds.f1;
+        let holds = t.holds;
+        let Holds::Forced { f0, f1 } = holds else {
+            any = false;
+            break 'words;
+        };
         let limit = t.limit;
         let count = t.count;
         any = mark_safe(f0, f1, &t.plain, &t.named, count, set.n, marks);
@@ -98,7 +105,7 @@ fn first_failing(
         keep_seen(&mut *seen, active);
         w = w + 1;
     }
-    told_by(words, any, w, g)
+    told_by(set, words, any, w, g)
 }
 
 // The verdict on the words, by the first of them that fails: an endless walk there gives way to a later word without a safe vector, where no change of ranks would
@@ -111,7 +118,7 @@ fn revise(set: Set, found: Verdict, seen: &mut [u64; PLACES]) -> Verdict
         Verdict::NoEnd { word, request: _ } => {
             let without = first_without(set, word + 1, seen);
             if without < 1u32 << set.r {
-                return Verdict::NoVector { word: without };
+                return none_at(set, without);
             }
             found
         }

@@ -9,6 +9,8 @@ use lib.ListN.{getD}
 use lib.Bits.{bitAnd}
 use Rattle.words.specs.Word.{without, meets}
 use Rattle.words.specs.Loop.{word}
+use Rattle.scan.specs.declared.holds.Holds.{Holds}
+use Rattle.scan.specs.declared.holds.Holds.the-variants.{Forced, Clash}
 use Rattle.scan.specs.declared.table.Table.{Table}
 use Rattle.scan.specs.declared.eight.Eight.{Eight}
 use Rattle.scan.specs.Set.{mostConstraints}
@@ -45,8 +47,13 @@ safeByte held f0 f1 plain named low count b =
     let safe = without held (flipsOver plain named low count b) in
     cond (meets (f1 / 8) (f0 / 8) b) safe 0
 
+-- by these holds: none at a clash
+abbrev pub safeByteHeld : Holds → List ℕ → List ℕ → ℕ → ℕ → ℕ
+safeByteHeld (Forced f0 f1) plain named count b =
+    let e = eightOf plain named count in
+    safeByte (lowHeld f0 f1) f0 f1 (e .plain) (e .named) (e .low) count b
+safeByteHeld (Clash k) plain named count b = 0
+
 -- of a table's entries and holds
 unfoldable pub safeByteIn : Table → ℕ → ℕ
-safeByteIn t b =
-    let e = eightOf (t .plain) (t .named) (t .count) in
-    safeByte (lowHeld (t .holds .f0) (t .holds .f1)) (t .holds .f0) (t .holds .f1) (e .plain) (e .named) (e .low) (t .count) b
+safeByteIn t b = safeByteHeld (t .holds) (t .plain) (t .named) (t .count) b

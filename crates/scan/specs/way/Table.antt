@@ -2,7 +2,7 @@
 -- not simple, the outputs named plain, all the outputs named, and those that yield.
 -- Assumes nothing.
 use Prim.Native.Nat.{ℕ, zero, suc, _+_, _*_, _/_, min}
-use mathlib.Core.Bool.{Bool, cond, not, _&&_}
+use mathlib.Core.Bool.{Bool, false, cond, not, _&&_}
 use mathlib.Core.List.{List}
 use lib.ListN.{getD, set, replicate}
 use lib.Bits.{bitAnd, bitXor}
@@ -11,13 +11,13 @@ use Rattle.words.specs.Loop.{gather, some}
 use Rattle.scan.specs.declared.set.Constraint.{Constraint}
 use Rattle.scan.specs.declared.set.Set.{Set}
 use Rattle.scan.specs.declared.holds.Holds.{Holds}
+use Rattle.scan.specs.declared.holds.Holds.the-variants.{Forced, Clash}
 use Rattle.scan.specs.declared.table.Table.{Table}
 use Rattle.scan.specs.declared.walk.Walk.{Walk}
 use Rattle.scan.specs.Set.{mostOutputs, mostConstraints, constraint, outs}
-use Rattle.scan.specs.Holds.{unheldBy, startFrom}
 use Rattle.scan.specs.Pass.{yielding}
-use Rattle.scan.specs.Walk.{walkBy}
-use Rattle.scan.specs.way.Holds.{holdsBy, limitBy}
+use Rattle.scan.specs.Walk.{walkHeld}
+use Rattle.scan.specs.way.Holds.{holdsBy, unheldFrom, limitBy}
 use Rattle.scan.specs.way.Columns.{counted, columnsOf, entryTrue}
 
 -- ---- building it
@@ -26,9 +26,9 @@ use Rattle.scan.specs.way.Columns.{counted, columnsOf, entryTrue}
 abbrev pub outputsIn : Set → ℕ
 outputsIn s = min (s .n) mostOutputs
 
--- the outputs that these holds leave
+-- the outputs that these holds leave to passes
 unfoldable pub unheldIn : Set → Holds → ℕ
-unheldIn s h = unheldBy (outputsIn s) (h .f0) (h .f1)
+unheldIn s h = unheldFrom (outputsIn s) h
 
 -- of constraint i, where these are the holds, the outputs that yield
 unfoldable pub yieldsIn : Set → Holds → ℕ → ℕ
@@ -105,9 +105,14 @@ safeOver f0 f1 plain named count v = meets f1 f0 v && not (anyTrue plain named c
 
 -- ---- by a table
 
+-- safety by these holds: no vector is safe at a clash
+abbrev pub safeHeld : Holds → List ℕ → List ℕ → ℕ → ℕ → Bool
+safeHeld (Forced f0 f1) plain named count v = safeOver f0 f1 plain named count v
+safeHeld (Clash k) plain named count v = false
+
 -- safety
 abbrev pub safeIn : Table → ℕ → Bool
-safeIn t = safeOver (t .holds .f0) (t .holds .f1) (t .plain) (t .named) (t .count)
+safeIn t = safeHeld (t .holds) (t .plain) (t .named) (t .count)
 
 -- a pass
 abbrev pub passIn : Table → ℕ → ℕ
@@ -115,4 +120,4 @@ passIn t = passOver (t .plain) (t .named) (t .flip) (t .count)
 
 -- the walk from a request
 abbrev pub walkIn : Table → ℕ → Walk
-walkIn t request = walkBy (safeIn t) (passIn t) (t .limit) (startFrom (t .holds .f0) (t .holds .f1) request) 0
+walkIn t request = walkHeld (safeIn t) (passIn t) (t .limit) request (t .holds)

@@ -20,6 +20,9 @@ enum-known-verdict c = search needs
 enum-known-verdict-2 : tie.Need-enum-known-verdict-2
 enum-known-verdict-2 c = search needs
 
+enum-known-verdict-3 : tie.Need-enum-known-verdict-3
+enum-known-verdict-3 c = search needs
+
 returns : tie.Need-returns
 returns c = ap (verdictLine (c .before .before .args .set)) (sym (c .enum-told .given .1))
 
@@ -35,6 +38,9 @@ returns-4 c = ap (verdictLine (c .before .before .before .args .set)) (sym (c .b
 returns-5 : tie.Need-returns-5
 returns-5 c = ap (verdictLine (c .before .before .before .args .set)) (sym (c .before .verdict2 .given .1))
 
+returns-6 : tie.Need-returns-6
+returns-6 c = ap (verdictLine (c .before .before .before .args .set)) (sym (c .before .verdict3 .given .1))
+
 pub verdict-line-spec : {M : Type 1} → statement M
 verdict-line-spec =
     tie.close
@@ -44,8 +50,10 @@ verdict-line-spec =
     enum-told-3
     enum-known-verdict
     enum-known-verdict-2
+    enum-known-verdict-3
     returns
     returns-2
     returns-3
     returns-4
-    returns-5)
+    returns-5
+    returns-6)

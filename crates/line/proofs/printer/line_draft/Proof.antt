@@ -1,7 +1,7 @@
 -- `line::printer::line_draft` meets its contract: for each line its word, its numbers and the line's end, one behind the other. Assumes nothing.
 use native.Mathlib.Omega.{arith}
 use Rattle.line.specs.way.Draft.{draftBytes}
-use Rattle.line.proofs.LineLaws.{accept-made, load-made, no-vector-made, no-end-made}
+use Rattle.line.proofs.LineLaws.{accept-made, load-made, no-vector-made, clash-made, no-end-made}
 use borrow.Author.Needs.{needs}
 use Rattle.line.proofs.printer.line_draft.Statement.{statement}
 use Rattle.line.proofs.printer.line_draft.Tie as tie
@@ -78,6 +78,27 @@ with-number-requires-8 c κs = search needs
 with-byte-requires-4 : tie.Need-with-byte-requires-4
 with-byte-requires-4 c κs = search needs
 
+enum-known-line-5 : tie.Need-enum-known-line-5
+enum-known-line-5 c = search needs
+
+word-draft-requires-5 : tie.Need-word-draft-requires-5
+word-draft-requires-5 c κs = search needs
+
+cast-with-number-5 : tie.Need-cast-with-number-5
+cast-with-number-5 c = search needs
+
+with-number-requires-9 : tie.Need-with-number-requires-9
+with-number-requires-9 c κs = search needs
+
+cast-with-number-6 : tie.Need-cast-with-number-6
+cast-with-number-6 c = search needs
+
+with-number-requires-10 : tie.Need-with-number-requires-10
+with-number-requires-10 c κs = search needs
+
+with-byte-requires-5 : tie.Need-with-byte-requires-5
+with-byte-requires-5 c κs = search needs
+
 returns : tie.Need-returns
 returns c =
     let x3 = c .before in
@@ -137,13 +158,30 @@ returns-4 c =
     let g = w .before .before .before .before in
     let l = g .before .before .args .line in (
       omega (arith, w .word-draft4 .ensures .0, x1 .with-number7 .ensures .0, x2 .with-number8 .ensures .0, c .with-byte4 .ensures .0),
-      no-end-made l _ _
+      clash-made l _ _
           (draftBytes (w .word-draft4 .result)) (draftBytes (x1 .with-number7 .result)) (draftBytes (x2 .with-number8 .result)) (draftBytes (c .with-byte4 .result))
           (g .line4 .given .1)
           (w .word-draft4 .ensures .1)
           (x1 .with-number7 .ensures .1)
           (x2 .with-number8 .ensures .1)
           (c .with-byte4 .ensures .1),
+    )
+
+returns-5 : tie.Need-returns-5
+returns-5 c =
+    let x2 = c .before in
+    let x1 = x2 .before in
+    let w = x1 .before in
+    let g = w .before .before .before .before in
+    let l = g .before .before .args .line in (
+      omega (arith, w .word-draft5 .ensures .0, x1 .with-number9 .ensures .0, x2 .with-number10 .ensures .0, c .with-byte5 .ensures .0),
+      no-end-made l _ _
+          (draftBytes (w .word-draft5 .result)) (draftBytes (x1 .with-number9 .result)) (draftBytes (x2 .with-number10 .result)) (draftBytes (c .with-byte5 .result))
+          (g .line5 .given .1)
+          (w .word-draft5 .ensures .1)
+          (x1 .with-number9 .ensures .1)
+          (x2 .with-number10 .ensures .1)
+          (c .with-byte5 .ensures .1),
     )
 
 pub line-draft-spec : {M : Type 1} → statement M
@@ -174,7 +212,15 @@ line-draft-spec =
     cast-with-number-4
     with-number-requires-8
     with-byte-requires-4
+    enum-known-line-5
+    word-draft-requires-5
+    cast-with-number-5
+    with-number-requires-9
+    cast-with-number-6
+    with-number-requires-10
+    with-byte-requires-5
     returns
     returns-2
     returns-3
-    returns-4)
+    returns-4
+    returns-5)

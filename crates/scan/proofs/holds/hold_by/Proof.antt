@@ -1,12 +1,12 @@
 -- `scan::holds::hold_by` meets its contract. The invariant: the two masks are those of the constraints passed. Assumes nothing.
-use mathlib.Core.Path.{_≡_, refl}
+use mathlib.Core.Path.{_≡_, refl, ap, _∙_}
 use mathlib.Core.List.{List}
 use Prim.Native.Nat.{ℕ, _≤_, _-_, min}
 use native.Mathlib.Omega.{arith}
 use Rattle.words.specs.Loop.{gather}
 use Rattle.words.proofs.LoopTurns.{gather-none, kept-turn}
-use Rattle.scan.specs.declared.holds.Holds.{Holds}
 use Rattle.scan.specs.Set.{mostConstraints}
+use Rattle.scan.specs.Holds.{reckoned}
 use Rattle.scan.specs.way.Holds.{keptAt, holdsBy}
 use borrow.Author.Needs.{needs}
 use Rattle.scan.proofs.holds.hold_by.Statement.{statement}
@@ -14,9 +14,9 @@ use Rattle.scan.proofs.holds.hold_by.Tie as tie
 
 -- all constraints are passed
 done : (plain negated : List ℕ) (m holding z o i : ℕ) → i ≡ min m mostConstraints → z ≡ gather i (keptAt plain holding) → o ≡ gather i (keptAt negated holding)
-    → _≡_ {A = Holds} (record { f0 = z; f1 = o }) (holdsBy plain negated m holding)
+    → reckoned z o ≡ holdsBy plain negated m holding
 unfolding holdsBy
-done plain negated m holding z o i e p q = cc
+done plain negated m holding z o i e p q = λ j. reckoned ((p ∙ ap (λ (k : ℕ). gather k (keptAt plain holding)) e) j) ((q ∙ ap (λ (k : ℕ). gather k (keptAt negated holding)) e) j)
 
 abbrev Inv-loop : tie.InvT-loop
 Inv-loop plain negated m holding end f0₀ f1₀ i₀ f0 f1 i = (i ≤ end) × (f0 ≡ gather i (keptAt plain holding)) × (f1 ≡ gather i (keptAt negated holding))
@@ -71,11 +71,16 @@ loop-again c =
           (l .inv .2) (b .bit64 .ensures) refl refl (c .keep162 .ensures),
     )
 
+reckon-requires : tie.Need-reckon-requires Inv-loop μ-loop
+reckon-requires c κs = search needs
+
 returns : tie.Need-returns Inv-loop μ-loop
 returns c =
-    let l = c .before .loop in
-    let a = c .before .before .before .args in
-    done (a .plain .now) (a .negated .now) (a .m) (a .holding) (l .f0) (l .f1) (l .i) (omega arith) (l .inv .1) (l .inv .2)
+    let e = c .before in
+    let l = e .before .loop in
+    let a = e .before .before .before .args in
+    c .reckon .ensures
+    ∙ done (a .plain .now) (a .negated .now) (a .m) (a .holding) (l .f0) (l .f1) (l .i) (omega arith) (l .inv .1) (l .inv .2)
 
 pub hold-by-spec : {M : Type 1} → statement M
 hold-by-spec =
@@ -95,4 +100,5 @@ hold-by-spec =
     add-i
     loop-less
     loop-again
+    reckon-requires
     returns)

@@ -11,9 +11,8 @@ use Rattle.scan.specs.declared.set.Set.{Set}
 use Rattle.scan.specs.declared.holds.Holds.{Holds}
 use Rattle.scan.specs.declared.table.Table.{Table}
 use Rattle.scan.specs.Set.{constraint, outs}
-use Rattle.scan.specs.Holds.{unheldBy}
 use Rattle.scan.specs.Pass.{yielding}
-use Rattle.scan.specs.way.Holds.{limitBy}
+use Rattle.scan.specs.way.Holds.{unheldFrom, limitBy}
 use Rattle.scan.specs.way.Columns.{counted}
 use Rattle.scan.specs.way.Table.{outputsIn, unheldIn, yieldsIn, withEntry, withCount, tableUpto, filledUp, tableBy}
 use Rattle.scan.proofs.TableLaws.{upto-none, upto-on, upto-off}
@@ -32,7 +31,7 @@ reached s h = table h (limitBy (unheldIn s h))
 
 module _ (s : Set) (h : Holds) (entered i count : ℕ) (plain named flip : List ℕ) (inv : reached s h count plain named flip ≡ tableUpto s h entered i) where
   -- a constraint that the mask has is entered
-  on : bit i entered ≡ true → (n unheld y : ℕ) → n ≡ outputsIn s → unheld ≡ unheldBy n (h .f0) (h .f1)
+  on : bit i entered ≡ true → (n unheld y : ℕ) → n ≡ outputsIn s → unheld ≡ unheldFrom n h
       → y ≡ yielding n (constraint s i) (bitAnd (outs (constraint s i)) unheld)
       → reached s h (count + 1) (set plain count (constraint s i .«out_plain»)) (set named count (outs (constraint s i))) (set flip count y)
       ≡ tableUpto s h entered (i + 1)
@@ -40,16 +39,16 @@ module _ (s : Set) (h : Holds) (entered i count : ℕ) (plain named flip : List 
   on e n unheld y en eu ey =
       let c = constraint s i in
       ap (λ (x : ℕ). reached s h (count + 1) (set plain count (c .«out_plain»)) (set named count (outs c)) (set flip count x))
-      (ey ∙ (λ k. yielding (en k) c (bitAnd (outs c) ((eu ∙ ap (λ (x : ℕ). unheldBy x (h .f0) (h .f1)) en) k))))
+      (ey ∙ (λ k. yielding (en k) c (bitAnd (outs c) ((eu ∙ ap (λ (x : ℕ). unheldFrom x h) en) k))))
       ∙ ap (withEntry c (yieldsIn s h i)) inv
       ∙ sym (upto-on s h entered i e)
 
   -- all constraints are passed
-  done : (n unheld limit filled : ℕ) → n ≡ outputsIn s → unheld ≡ unheldBy n (h .f0) (h .f1) → limit ≡ limitBy unheld → filled ≡ filledUp count
+  done : (n unheld limit filled : ℕ) → n ≡ outputsIn s → unheld ≡ unheldFrom n h → limit ≡ limitBy unheld → filled ≡ filledUp count
       → i ≡ counted s → table h limit filled plain named flip ≡ tableBy s h entered
   unfolding tableBy unheldIn
   done n unheld limit filled en eu el ef e =
-      ap₂ (λ (x k : ℕ). table h x k plain named flip) (el ∙ ap limitBy (eu ∙ ap (λ (x : ℕ). unheldBy x (h .f0) (h .f1)) en)) ef
+      ap₂ (λ (x k : ℕ). table h x k plain named flip) (el ∙ ap limitBy (eu ∙ ap (λ (x : ℕ). unheldFrom x h) en)) ef
       ∙ ap (λ (t : Table). withCount (filledUp (t .count)) t) (inv ∙ ap (tableUpto s h entered) e)
 
 abbrev Inv-loop : tie.InvT-loop

@@ -32,15 +32,15 @@ abbrev walk : ℕ → ℕ → Table → ℕ → ℕ → ℕ → Walk
 walk f0 f1 t = walkBy (safeOver f0 f1 (t .plain) (t .named) (t .count)) (passOver (t .plain) (t .named) (t .flip) (t .count))
 
 abbrev Inv-loop : tie.InvT-loop
-Inv-loop from limit t f0 f1 count v₀ made₀ v made = (made ≤ limit) × (walk f0 f1 t (limit - made) v made ≡ walk f0 f1 t limit from 0)
+Inv-loop f0 f1 from limit t count v₀ made₀ v made = (made ≤ limit) × (walk f0 f1 t (limit - made) v made ≡ walk f0 f1 t limit from 0)
 
 abbrev μ-loop : tie.MeasureT-loop
-μ-loop from limit t f0 f1 count v₀ made₀ v made = limit - made
+μ-loop f0 f1 from limit t count v₀ made₀ v made = limit - made
 
 loop-holds : tie.Need-loop-holds Inv-loop μ-loop
 loop-holds c =
     let a = c .args in
-    (omega arith, ap (λ (k : ℕ). walk (a .t1 .holds .f0) (a .t1 .holds .f1) (a .t1) k (a .from) 0) (sub-zero (a .limit)))
+    (omega arith, ap (λ (k : ℕ). walk (a .f0) (a .f1) (a .t1) k (a .from) 0) (sub-zero (a .limit)))
 
 is-safe-requires : tie.Need-is-safe-requires Inv-loop μ-loop
 is-safe-requires c κs = search needs

@@ -7,7 +7,7 @@ use Rattle.scan.specs.declared.set.Set.{Set}
 use Rattle.scan.specs.Set.{zeroSet, freshState, zeroState}
 use Rattle.verdict.specs.declared.verdict.Verdict.{Verdict}
 use Rattle.verdict.proofs.verdict.Verdict.{the-type}
-use Rattle.verdict.specs.declared.verdict.Verdict.the-variants.{Accepted, BadSet, ShortScratch, NoVector, NoEnd}
+use Rattle.verdict.specs.declared.verdict.Verdict.the-variants.{Accepted, BadSet, ShortScratch, NoVector, Clash, NoEnd}
 use Rattle.start.specs.Start.{startState}
 use borrow.Author.Needs.{needs}
 use Rattle.start.proofs.starting.state_of.Statement.{statement}
@@ -23,11 +23,12 @@ unfolding zeroSet
 zero-fresh = refl
 
 -- any verdict but acceptance leads to the zero state
-rejected : (s : Set) (v : Verdict) → OneOf (1 ∷ 2 ∷ 3 ∷ 4 ∷ []) (tagOf the-type v) → zeroState ≡ startState s v
-rejected s Accepted h = absurd (miss (1 ∷ 2 ∷ 3 ∷ 4 ∷ []) 0 tt h)
+rejected : (s : Set) (v : Verdict) → OneOf (1 ∷ 2 ∷ 3 ∷ 4 ∷ 5 ∷ []) (tagOf the-type v) → zeroState ≡ startState s v
+rejected s Accepted h = absurd (miss (1 ∷ 2 ∷ 3 ∷ 4 ∷ 5 ∷ []) 0 tt h)
 rejected s BadSet h = refl
 rejected s ShortScratch h = refl
 rejected s (NoVector w) h = refl
+rejected s (Clash w k) h = refl
 rejected s (NoEnd w g) h = refl
 
 enum-told : tie.Need-enum-told

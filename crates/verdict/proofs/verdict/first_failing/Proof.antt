@@ -30,14 +30,14 @@ use Rattle.scan.specs.way.Table.{tableBy, tableOf}
 use Rattle.scan.proofs.ShapeLaws.{counts}
 use Rattle.scan.proofs.BlockLaws.{high-first, high-next, made-in-block}
 use Rattle.scan.proofs.TableLaws.{made-table}
-use Rattle.verdict.specs.declared.verdict.Verdict.the-variants.{Accepted, NoVector, NoEnd}
-use Rattle.verdict.specs.Judge.{endless, scratchBytes}
+use Rattle.verdict.specs.declared.verdict.Verdict.the-variants.{Accepted, NoEnd}
+use Rattle.verdict.specs.Judge.{endless, noneAt, scratchBytes}
 use Rattle.verdict.specs.FirstFailing.{fails, firstFailing}
 use Rattle.verdict.specs.way.Paths.{trailPlaces}
 use Rattle.verdict.specs.way.Seen.{Known}
 use Rattle.verdict.specs.way.Left.{verdictBy}
 use Rattle.verdict.proofs.FirstFailingLaws.{failing-accepted, failing-no-vector, failing-no-end, passes}
-use Rattle.verdict.proofs.WordMarks.{Ready, marked-safe, settled-request}
+use Rattle.verdict.proofs.WordMarks.{Ready, clash-none, marked-safe, settled-request}
 use Rattle.verdict.proofs.SeenLaws.{known-hit, known-more, fails-alike}
 use borrow.Author.Needs.{needs}
 use Rattle.verdict.proofs.verdict.first_failing.Statement.{statement}
@@ -199,10 +199,19 @@ words-again c =
 build-by-requires : tie.Need-build-by-requires Inv-loop μ-loop Inv-words μ-words
 build-by-requires c κs = search needs
 
+enum-known-holds : tie.Need-enum-known-holds Inv-loop μ-loop Inv-words μ-words
+enum-known-holds c = search needs
+
+enum-told : tie.Need-enum-told Inv-loop μ-loop Inv-words μ-words
+enum-told c = search needs
+
 -- the word at which the safe vectors were marked, its table and its marks
 module _ (m : tie.After-mark-safe Inv-loop μ-loop Inv-words μ-words) where
+  abbrev held : tie.After-holds Inv-loop μ-loop Inv-words μ-words
+  held = m .before .before .before .before .before .before
+
   abbrev built : tie.After-build-by Inv-loop μ-loop Inv-words μ-words
-  built = m .before .before .before .before .before
+  built = held .before .before
 
   abbrev looked : tie.After-active-in Inv-loop μ-loop Inv-words μ-words
   looked = built .before .before .before .before .before .before .before
@@ -219,12 +228,13 @@ module _ (m : tie.After-mark-safe Inv-loop μ-loop Inv-words μ-words) where
   -- what marking them tells of the word, and that the marks are right
   marked-told : (m .mark-safe .result ≡ hasVector (set word) (word .words .w)) × Ready (set word) (word .words .w) marks
   marked-told =
-      marked-safe (set word) (formed word) (word .words .w) (built .build-by .result) built-told (m .mark-safe .result) marks
+      marked-safe (set word) (formed word) (word .words .w) (built .build-by .result) built-told (held .holds .given .0 .0) (held .holds .given .0 .1 .0) (held .holds .given .1)
+      (m .mark-safe .result) marks
       (m .mark-safe .ensures .0) (m .mark-safe .ensures .1)
 
 mark-safe-requires : tie.Need-mark-safe-requires Inv-loop μ-loop Inv-words μ-words
 mark-safe-requires c κs =
-    let o = at (c .before .before .before .before .before .before .before .before .before .before .before) in
+    let o = at (c .before .before .before .before .before .before .before .before .before .before .before .before .before .before) in
     (few (start o) .1, o .words .inv .3)
 
 -- the request at which a walk was settled
@@ -246,6 +256,7 @@ module _ (q : tie.After-settle Inv-loop μ-loop Inv-words μ-words) where
       × Ready (set (word safes)) (word safes .words .w) (q .settle .last .1 .1 .1 .1 .1 .1 .0)
   end-told =
       settled-request (set (word safes)) (formed (word safes)) (word safes .words .w) (built safes .build-by .result) (built-told safes)
+      (held safes .holds .given .0 .0) (held safes .holds .given .0 .1 .0) (held safes .holds .given .1)
       (request .loop .marks) (request .loop .inv .1) (request .loop .g) fits (started .start-vector .result) (started .start-vector .ensures)
       (q .settle .result) _ (q .settle .ensures .0) (q .settle .ensures .1 .0)
 
@@ -321,7 +332,7 @@ words-again-2 c =
 
 -- ---- where the loop was left
 
--- the ways there: all words were passed; the word has no safe vector; or the request's walk is endless
+-- the ways there: all words were passed; the word has no safe vector, since an output is forced both ways or since none was marked; or the request's walk is endless
 by-way {ℓ} : {C : Type ℓ} (c : tie.Left-words Inv-loop μ-loop Inv-words μ-words)
     → let o = c .before in
     (length (c .words-test .marks) ≡ scratchBytes (set o .n) → 2 ^ set o .r ≤ o .words .w → C)
@@ -337,25 +348,33 @@ by-way c all none never =
     (⊎-elim
     (λ x.
     let table = table-told o (x .7 .result) (mask-told o (x .4 .result) (x .4 .ensures) (x .7 .result) (x .7 .ensures)) (x .14 .result) (x .14 .ensures) in
-    let told = marked-safe (set o) (formed o) (o .words .w) (x .14 .result) table (x .19 .result) _ (x .19 .ensures .0) (x .19 .ensures .1) in
-    let off = not-true _ (x .22 .taken) in
-    none (ap length (x .23) ∙ told .1 .long) (omega (arith, o .words .inv .0, x .0 .taken)) (x .25 ∙ off) (sym (told .0) ∙ off))
+    none (ap length (x .17) ∙ o .words .inv .3) (omega (arith, o .words .inv .0, x .0 .taken)) (x .19)
+    (clash-none (set o) (formed o) (o .words .w) (x .14 .result) table (x .16 .given .0 .0) (x .16 .given .1)))
+    (⊎-elim
     (λ x.
     let table = table-told o (x .7 .result) (mask-told o (x .4 .result) (x .4 .ensures) (x .7 .result) (x .7 .ensures)) (x .14 .result) (x .14 .ensures) in
-    let told = marked-safe (set o) (formed o) (o .words .w) (x .14 .result) table (x .19 .result) _ (x .19 .ensures .0) (x .19 .ensures .1) in
-    let on = not-false _ (x .22 .left) in
-    let below : x .23 .g < 2 ^ set o .n = omega (arith, o .words .inv .1, x .24 .taken) in
-    let ended = settled-request (set o) (formed o) (o .words .w) (x .14 .result) table (x .23 .marks) (x .23 .inv .1) (x .23 .g) below
-    (x .25 .result) (x .25 .ensures) (x .32 .result) _ (x .32 .ensures .0) (x .32 .ensures .1 .0) in
-    let off = not-true _ (x .35 .taken) in
-    never (ap length (x .36) ∙ ended .1 .long) (omega (arith, o .words .inv .0, x .0 .taken)) (x .38 ∙ on) (sym (told .0) ∙ on)
-    (subst (λ (k : ℕ). k < 2 ^ set o .n) (sym (x .40)) below)
-    (subst (λ (k : ℕ). some k (endless (set o) (o .words .w)) ≡ false) (sym (x .40)) (x .23 .inv .3))
-    (ap (endless (set o) (o .words .w)) (x .40) ∙ not-false _ (sym (ended .0) ∙ off))))
+    let told = marked-safe (set o) (formed o) (o .words .w) (x .14 .result) table (x .16 .given .0 .0) (x .16 .given .0 .1 .0) (x .16 .given .1)
+    (x .22 .result) _ (x .22 .ensures .0) (x .22 .ensures .1) in
+    let off = not-true _ (x .25 .taken) in
+    none (ap length (x .26) ∙ told .1 .long) (omega (arith, o .words .inv .0, x .0 .taken)) (x .28 ∙ off) (sym (told .0) ∙ off))
+    (λ x.
+    let table = table-told o (x .7 .result) (mask-told o (x .4 .result) (x .4 .ensures) (x .7 .result) (x .7 .ensures)) (x .14 .result) (x .14 .ensures) in
+    let told = marked-safe (set o) (formed o) (o .words .w) (x .14 .result) table (x .16 .given .0 .0) (x .16 .given .0 .1 .0) (x .16 .given .1)
+    (x .22 .result) _ (x .22 .ensures .0) (x .22 .ensures .1) in
+    let on = not-false _ (x .25 .left) in
+    let below : x .26 .g < 2 ^ set o .n = omega (arith, o .words .inv .1, x .27 .taken) in
+    let ended = settled-request (set o) (formed o) (o .words .w) (x .14 .result) table (x .16 .given .0 .0) (x .16 .given .0 .1 .0) (x .16 .given .1)
+    (x .26 .marks) (x .26 .inv .1) (x .26 .g) below
+    (x .28 .result) (x .28 .ensures) (x .35 .result) _ (x .35 .ensures .0) (x .35 .ensures .1 .0) in
+    let off = not-true _ (x .38 .taken) in
+    never (ap length (x .39) ∙ ended .1 .long) (omega (arith, o .words .inv .0, x .0 .taken)) (x .41 ∙ on) (sym (told .0) ∙ on)
+    (subst (λ (k : ℕ). k < 2 ^ set o .n) (sym (x .43)) below)
+    (subst (λ (k : ℕ). some k (endless (set o) (o .words .w)) ≡ false) (sym (x .43)) (x .26 .inv .3))
+    (ap (endless (set o) (o .words .w)) (x .43) ∙ not-false _ (sym (ended .0) ∙ off)))))
     (c .words-test .came)
 
 told-by-requires : tie.Need-told-by-requires Inv-loop μ-loop Inv-words μ-words
-told-by-requires c κs = search needs
+told-by-requires c κs = formed (c .before)
 
 same-length : tie.Need-same-length Inv-loop μ-loop Inv-words μ-words
 same-length c =
@@ -363,14 +382,14 @@ same-length c =
     by-way l (λ n h. n) (λ n h a v. n) (λ n h a v f b e. n) ∙ sym (start (l .before) .pre .1)
 
 -- the answer by the way there
-module _ (words : ℕ) (any : Bool) (w g : ℕ) where
-  by-all : words ≤ w → verdictBy words any w g ≡ Accepted
+module _ (s : Set) (words : ℕ) (any : Bool) (w g : ℕ) where
+  by-all : words ≤ w → verdictBy s words any w g ≡ Accepted
   by-all h = rw (le-leb words w h)
 
-  by-none : w < words → any ≡ false → verdictBy words any w g ≡ NoVector w
+  by-none : w < words → any ≡ false → verdictBy s words any w g ≡ noneAt s w
   by-none h e = rw (lt-leb words w h, e)
 
-  by-never : w < words → any ≡ true → verdictBy words any w g ≡ NoEnd w g
+  by-never : w < words → any ≡ true → verdictBy s words any w g ≡ NoEnd w g
   by-never h e = rw (lt-leb words w h, e)
 
 answer : (c : tie.After-told-by Inv-loop μ-loop Inv-words μ-words) → c .told-by .result ≡ firstFailing (set (c .before .before))
@@ -378,17 +397,17 @@ answer c =
     let l = c .before in
     let o = l .before in
     let words : ℕ = 2 ^ set o .r in
-    let told : c .told-by .result ≡ verdictBy words (l .words-test .any) (o .words .w) (l .words-test .g)
-    = c .told-by .ensures ∙ ap (λ (k : ℕ). verdictBy k (l .words-test .any) (o .words .w) (l .words-test .g)) (o .words .inv .0) in
+    let told : c .told-by .result ≡ verdictBy (set o) words (l .words-test .any) (o .words .w) (l .words-test .g)
+    = c .told-by .ensures ∙ ap (λ (k : ℕ). verdictBy (set o) k (l .words-test .any) (o .words .w) (l .words-test .g)) (o .words .inv .0) in
     told
     ∙ by-way l
     (λ n h.
     let all : o .words .w ≡ 2 ^ set o .r = omega (arith, o .words .inv .0, o .words .inv .2) in
-    by-all words (l .words-test .any) (o .words .w) (l .words-test .g) h
+    by-all (set o) words (l .words-test .any) (o .words .w) (l .words-test .g) h
     ∙ sym (failing-accepted (set o) (some-false-at (2 ^ set o .r) (fails (set o)) (ap (λ (k : ℕ). some k (fails (set o))) (sym all) ∙ o .words .inv .6))))
-    (λ n h a v. by-none words (l .words-test .any) (o .words .w) (l .words-test .g) h a ∙ sym (failing-no-vector (set o) (o .words .w) h (before o) v))
+    (λ n h a v. by-none (set o) words (l .words-test .any) (o .words .w) (l .words-test .g) h a ∙ sym (failing-no-vector (set o) (o .words .w) h (before o) v))
     (λ n h a v f b e.
-    by-never words (l .words-test .any) (o .words .w) (l .words-test .g) h a
+    by-never (set o) words (l .words-test .any) (o .words .w) (l .words-test .g) h a
     ∙ sym (failing-no-end (set o) (o .words .w) (l .words-test .g) h (before o) v f (some-false-at (l .words-test .g) (endless (set o) (o .words .w)) b) e))
 
 returns : tie.Need-returns Inv-loop μ-loop Inv-words μ-words
@@ -416,6 +435,8 @@ first-failing-spec =
     words-less
     words-again
     build-by-requires
+    enum-known-holds
+    enum-told
     mark-safe-requires
     loop-holds
     start-vector-requires

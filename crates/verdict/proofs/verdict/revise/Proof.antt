@@ -24,8 +24,8 @@ use Rattle.verdict.proofs.verdict.revise.Statement.{statement}
 use Rattle.verdict.proofs.verdict.revise.Tie as tie
 
 -- any verdict of another variant is not 23
-other : (v : Verdict) → OneOf (0 ∷ 1 ∷ 2 ∷ 3 ∷ []) (tagOf the-type v) → (w g : ℕ) → v ≢ NoEnd w g
-other v h w g e = miss (0 ∷ 1 ∷ 2 ∷ 3 ∷ []) 4 tt (subst (λ (x : Verdict). OneOf (0 ∷ 1 ∷ 2 ∷ 3 ∷ []) (tagOf the-type x)) e h)
+other : (v : Verdict) → OneOf (0 ∷ 1 ∷ 2 ∷ 3 ∷ 4 ∷ []) (tagOf the-type v) → (w g : ℕ) → v ≢ NoEnd w g
+other v h w g e = miss (0 ∷ 1 ∷ 2 ∷ 3 ∷ 4 ∷ []) 5 tt (subst (λ (x : Verdict). OneOf (0 ∷ 1 ∷ 2 ∷ 3 ∷ 4 ∷ []) (tagOf the-type x)) e h)
 
 enum-known-found : tie.Need-enum-known-found
 enum-known-found c = search needs
@@ -72,11 +72,15 @@ shl-if1 c = omega (arith, few (c .before .before .before .before))
 words-is : (f : tie.After-found) → (1 * 2 ^ set f .r) % 2 ^ 32 ≡ 2 ^ set f .r
 words-is f = one-shl 32 (set f .r) (omega (arith, few f))
 
+none-at-requires : tie.Need-none-at-requires
+none-at-requires c κs = formed (c .before .before .before .before .before)
+
 returns : tie.Need-returns
 returns c =
-    let w = c .before .before in
+    let t = c .before in
+    let w = t .before .before in
     let f = w .before .before .before in
-    sym (judge-without (set f) (w .first-without .result) (w .first-without .ensures) (omega (arith, words-is f, c .if1 .taken)))
+    c .none-at .ensures ∙ sym (judge-without (set f) (w .first-without .result) (w .first-without .ensures) (omega (arith, words-is f, t .if1 .taken)))
 
 returns-2 : tie.Need-returns-2
 returns-2 c =
@@ -90,4 +94,4 @@ returns-3 c =
     found-stays (s .args .set) (s .pre .0) (s .args .found) (s .pre .1) (other (s .args .found) (c .match .keys2))
 
 pub revise-spec : {M : Type 1} → statement M
-revise-spec = tie.close (tie.spec enum-known-found add-first-without first-without-requires cast-if1 shl-if1 returns returns-2 returns-3)
+revise-spec = tie.close (tie.spec enum-known-found add-first-without first-without-requires cast-if1 shl-if1 none-at-requires returns returns-2 returns-3)
