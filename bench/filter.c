@@ -349,7 +349,7 @@ static size_t scratch_bytes(size_t n)
 struct verdict {
     unsigned number; // 0: accepted; else the refusal
     uint32_t word;
-    uint16_t request;
+    uint16_t last; // the request of 23, the output of 58
 };
 
 // Eight vectors that differ in their outputs 0 to 2 alone are judged at once: of each entry the outputs from 3 on, and the byte of the vectors at which its
@@ -492,6 +492,15 @@ static uint32_t first_without(const struct set *s, const struct literals *l, uin
     return w;
 }
 
+// The rejection by a word without a safe vector: 58 with the lowest output that is forced both ways there, if there is one, and else 22.
+static struct verdict none_at(const struct set *s, uint32_t w)
+{
+    struct table t;
+    build_at(s, w, &t);
+    unsigned both = t.f0 & t.f1;
+    return both == 0 ? (struct verdict){ 22, w, 0 } : (struct verdict){ 58, w, (uint16_t)__builtin_ctz(both) };
+}
+
 // The first word that fails, and how.
 static struct verdict first_failing(const struct set *s, const struct literals *l, uint64_t *seen, uint8_t *scratch)
 {
@@ -507,8 +516,8 @@ static struct verdict first_failing(const struct set *s, const struct literals *
             continue;
         struct table t;
         build(s, l, active, &t);
-        if (!mark_safe(&t, scratch, s->n, bytes))
-            return (struct verdict){ 22, w, 0 };
+        if ((t.f0 & t.f1) != 0 || !mark_safe(&t, scratch, s->n, bytes))
+            return none_at(s, w);
         for (size_t g = 0; g < vectors; g++)
             if (!settle(&t, start_vector(&t, (uint16_t)g), scratch, trail))
                 return (struct verdict){ 23, w, (uint16_t)g };
@@ -530,7 +539,7 @@ static struct verdict judge(const struct set *s, uint8_t *scratch, size_t len)
     if (found.number != 23)
         return found;
     uint32_t without = first_without(s, &l, found.word + 1, seen);
-    return without < (uint32_t)1 << s->r ? (struct verdict){ 22, without, 0 } : found;
+    return without < (uint32_t)1 << s->r ? none_at(s, without) : found;
 }
 
 // The state of an accepted set, and a state of zeros of any other.
@@ -585,6 +594,8 @@ static struct sent scan(struct state *st, uint32_t sensor, uint16_t request)
         return (struct sent){ 32, 0, 0 };
     struct table t;
     build_at(s, read_word(st, sensor), &t);
+    if ((t.f0 & t.f1) != 0)
+        return (struct sent){ 33, 0, 0 };
     uint16_t v = start_vector(&t, request), made = 0;
     while (!is_safe(&t, v)) {
         if (made == t.limit)
@@ -990,10 +1001,10 @@ static uint32_t judge_often(const struct set *s, uint32_t times)
     for (; times > 0; times--) {
         struct verdict v = judge(s, scratch, sizeof scratch);
         sum = mix(sum, v.number);
-        if (v.number == 22 || v.number == 23)
+        if (v.number == 22 || v.number == 23 || v.number == 58)
             sum = mix(sum, v.word);
-        if (v.number == 23)
-            sum = mix(sum, v.request);
+        if (v.number == 23 || v.number == 58)
+            sum = mix(sum, v.last);
     }
     return sum;
 }

@@ -90,6 +90,7 @@ fn started(start: Result<State, Verdict>, scans: &[Words]) -> String {
     match start {
         Ok(state) => format!("ACCEPT\n{}", scanned("SCANS", state, scans)),
         Err(Verdict::NoVector(word)) => format!("NOVECTOR {word}\n"),
+        Err(Verdict::Clash(word, output)) => format!("CLASH {word} {output}\n"),
         Err(Verdict::NoEnd(word, request)) => format!("NOEND {word} {request}\n"),
         // Start gives a state in place of this verdict.
         Err(Verdict::Accepted) => String::new(),
@@ -216,6 +217,7 @@ fn verdict_words(verdict: Verdict) -> String {
     match verdict {
         Verdict::Accepted => String::from("0"),
         Verdict::NoVector(word) => format!("22/{word}"),
+        Verdict::Clash(word, output) => format!("58/{word}/{output}"),
         Verdict::NoEnd(word, request) => format!("23/{word}/{request}"),
     }
 }
@@ -289,8 +291,8 @@ mod tests {
             1, 0, 2, 0, 1, 3, 0, 1, b'A', 4, 0, 2, 64, 0, 4, 0, 2, 192, 0,
         ];
         let both_ways = [both_ways.as_slice(), &[5, 0, 0]].concat();
-        let scratch = format!("SCRATCH 1 22/0:{} 21:{}", filled(16), filled(16));
-        let rejected = format!("end\n{scratch}\nNOVECTOR 0\n");
+        let scratch = format!("SCRATCH 1 58/0/0:{} 21:{}", filled(16), filled(16));
+        let rejected = format!("end\n{scratch}\nCLASH 0 0\n");
         assert!(of(both_ways).ends_with(&rejected));
     }
 

@@ -108,11 +108,70 @@ pub fn missing_first() -> Vec<Case> {
         of(1, &[(s, PAIR)]),
         of(1, &[(not_s, CLASH), (s, PAIR)]),
     ];
-    let case = |file| Case::File {
-        file,
-        scans: Vec::new(),
+    files.map(rejected).to_vec()
+}
+
+/// "A and B" in each of the four ways: no vector is safe, and nothing is forced.
+const SHUT: [&[u8]; 4] = [
+    &[0x40, 0, 0x41, 0],
+    &[0x40, 0, 0xC1, 0],
+    &[0xC0, 0, 0x41, 0],
+    &[0xC0, 0, 0xC1, 0],
+];
+
+/// Document 02's "Simple constraints that contradict": the case of document 01;
+/// the same under the second of two sensors; "B", "not B"; A and B both, either
+/// first; "A", "not B", "C", "not C"; the four of A and B under "not s" and the
+/// clash under s; the pair under "not s" and a clash of B under s; the four
+/// alone; "A and B", "A and not B", "not A". Then scans of the first from states
+/// made by hand.
+pub fn clashes() -> Vec<Case> {
+    let (s, not_s, t): (&[u8], &[u8], &[u8]) = (&[0, 0], &[0x80, 0], &[1, 0]);
+    let (not_b, b): (&[u8], &[u8]) = (&[0xC1, 0], &[0x41, 0]);
+    let under = |reads: &[u8], outputs: &[&[u8]]| -> Vec<Vec<u8>> {
+        outputs.iter().map(|o| [reads, o].concat()).collect()
     };
-    files.map(case).to_vec()
+    let of = |sensors: u8, outputs: u8, constraints: &[Vec<Vec<u8>>]| {
+        let constraints: Vec<&[u8]> = constraints.iter().flatten().map(Vec::as_slice).collect();
+        file(sensors, &[], outputs, &constraints)
+    };
+    let [a, not_a] = CLASH;
+    let first = of(1, 1, &[under(s, &[not_a, a])]);
+    let files = [
+        first.clone(),
+        of(2, 1, &[under(t, &[not_a, a])]),
+        of(0, 2, &[under(&[], &[b, not_b])]),
+        of(0, 2, &[under(&[], &[a, not_a, b, not_b])]),
+        of(0, 2, &[under(&[], &[b, not_b, a, not_a])]),
+        of(0, 3, &[under(&[], &[a, not_b, &[0x42, 0], &[0xC2, 0]])]),
+        of(1, 2, &[under(not_s, &SHUT), under(s, &CLASH)]),
+        of(1, 2, &[under(not_s, &PAIR), under(s, &[b, not_b])]),
+        of(0, 2, &[under(&[], &SHUT)]),
+        of(0, 2, &[under(&[], &[SHUT[0], SHUT[1], not_a])]),
+    ];
+    let mut cases: Vec<Case> = files.map(rejected).to_vec();
+    for (past_output, mark) in [(0, 0), (0, 1), (1, 0), (1, 1)] {
+        let first_state = Kept {
+            past_sensor: 1,
+            past_output,
+            mark,
+        };
+        let scans = vec![(1, 0), (1, 1), (0, 1), (1, 1), (0, 0)];
+        cases.push(Case::State {
+            file: first.clone(),
+            list: Some(List {
+                first: first_state,
+                scans,
+            }),
+        });
+    }
+    cases
+}
+
+/// A file without scans.
+fn rejected(file: Vec<u8>) -> Case {
+    let scans = Vec::new();
+    Case::File { file, scans }
 }
 
 /// Read point b is the past of B; outputs A and B; B rests on; "b and A".

@@ -14,9 +14,23 @@ impl Hold {
     pub fn is_held(&self) -> bool {
         self.f0 || self.f1
     }
+
+    pub fn is_both_ways(&self) -> bool {
+        self.f0 && self.f1
+    }
 }
 
-/// How a walk ends, if it does.
+/// What the reckoning of holds answers.
+#[derive(Clone, Debug, PartialEq, Eq)]
+pub enum Holds {
+    /// What each output is forced to; none is forced both ways.
+    Forced(Vec<Hold>),
+    /// The lowest output that is forced both ways.
+    Clash(usize),
+}
+
+/// How a walk ends, if it does. At a clash it makes no pass and is endless: no
+/// vector is safe there.
 #[derive(Clone, Debug, PartialEq, Eq)]
 pub enum Walk {
     Safe { vector: Vec<bool>, passes: u32 },
@@ -52,8 +66,17 @@ pub fn is_safe(set: &Set, reads: &[bool], vector: &[bool]) -> bool {
     !set.constraints.iter().any(|c| is_true(c, reads, vector))
 }
 
-/// The holds of all outputs.
-pub fn holds(set: &Set, reads: &[bool]) -> Vec<Hold> {
+/// The holds of all outputs, or the lowest with F0 and F1 both true.
+pub fn holds(set: &Set, reads: &[bool]) -> Holds {
+    let pulls = pulls(set, reads);
+    match pulls.iter().position(Hold::is_both_ways) {
+        Some(output) => Holds::Clash(output),
+        None => Holds::Forced(pulls),
+    }
+}
+
+/// F0 and F1 of all outputs, both of one as well.
+pub fn pulls(set: &Set, reads: &[bool]) -> Vec<Hold> {
     (0..set.outputs.len())
         .map(|output| Hold {
             f0: is_pulled(set, reads, output, false),
@@ -121,7 +144,9 @@ fn yielding(constraint: &Constraint, holds: &[Hold]) -> Vec<usize> {
 /// The walk from a request. It is endless when it comes back to a vector
 /// without having been safe, since a pass depends on the vector alone.
 pub fn walk(set: &Set, reads: &[bool], request: &[bool]) -> Walk {
-    let holds = holds(set, reads);
+    let Holds::Forced(holds) = holds(set, reads) else {
+        return Walk::Endless;
+    };
     let mut vector = start_vector(&holds, request);
     let mut visited: HashSet<Vec<bool>> = HashSet::new();
     let mut passes = 0;

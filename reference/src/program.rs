@@ -11,16 +11,17 @@ pub fn line(input: &[u8]) -> String {
     let file = input.get(..MOST_BYTES).unwrap_or(input);
     match load(file) {
         Err(refusal) => format!("LOAD {} {}\n", refusal.number, refusal.offset),
-        Ok(set) => judged(&set),
+        Ok(set) => judged(&set, judge(&set)),
     }
 }
 
 /// The line of a set by its verdict.
-fn judged(set: &Set) -> String {
+pub fn judged(set: &Set, verdict: Verdict) -> String {
     let (r, n, m) = (set.reads.len(), set.outputs.len(), set.constraints.len());
-    match judge(set) {
+    match verdict {
         Verdict::Accepted => format!("ACCEPT {r} {n} {m}\n"),
         Verdict::NoVector(word) => format!("NOVECTOR {word}\n"),
+        Verdict::Clash(word, output) => format!("CLASH {word} {output}\n"),
         Verdict::NoEnd(word, request) => format!("NOEND {word} {request}\n"),
     }
 }

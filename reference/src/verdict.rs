@@ -1,17 +1,32 @@
 //! The verdict: all read words are tried for a safe vector, then all of them
-//! for an endless walk.
+//! for an endless walk. A word without a vector is told with its clash, if it
+//! has one.
 
-use crate::filter::{is_safe, read_literals_true, walk, Walk};
+use crate::filter::{holds, is_safe, read_literals_true, walk, Holds, Walk};
 use crate::set::{bits, Constraint, Set};
 use std::collections::HashMap;
 
 #[derive(Clone, Copy, Debug, PartialEq, Eq)]
 pub enum Verdict {
     Accepted,
-    /// 22: no safe vector at this read word.
+    /// 22: no safe vector at this read word, and no output forced both ways.
     NoVector(u32),
+    /// 58: no safe vector at this read word, and this is the lowest output that
+    /// is forced both ways there.
+    Clash(u32, usize),
     /// 23: the walk from this request is never safe at this read word.
     NoEnd(u32, u16),
+}
+
+impl Verdict {
+    /// The verdict without the name of a clash: 22 in place of 58, as it was
+    /// before the request "Simple constraints that contradict".
+    pub fn without_clash(self) -> Verdict {
+        match self {
+            Verdict::Clash(word, _) => Verdict::NoVector(word),
+            other => other,
+        }
+    }
 }
 
 /// The verdict. A read word counts only through the constraints whose read
@@ -20,7 +35,7 @@ pub fn judge(set: &Set) -> Verdict {
     let mut vectors = Shared::new(set, has_safe_vector);
     let mut walks = Shared::new(set, first_endless);
     if let Some(word) = words(set).find(|&word| !vectors.at(word)) {
-        return Verdict::NoVector(word);
+        return without_vector(set, word);
     }
     let endless = words(set).find_map(|word| Some((word, walks.at(word)?)));
     match endless {
@@ -35,7 +50,7 @@ pub fn judge_plainly(set: &Set) -> Verdict {
     let r = set.reads.len();
     for word in 0..1 << r {
         if !has_safe_vector(set, &bits(word, r)) {
-            return Verdict::NoVector(word);
+            return without_vector(set, word);
         }
     }
     for word in 0..1 << r {
@@ -48,9 +63,9 @@ pub fn judge_plainly(set: &Set) -> Verdict {
 
 /// The verdict in document 01's order, as it was before the request "Missing
 /// vectors come before endless walks": each word is tried for a safe vector and
-/// then for an endless walk, and the first that fails is told. No answer comes
-/// from here: it tells which sets have another one now, and the corpus draws its
-/// older sets by it, so that they stay the same.
+/// then for an endless walk, and the first that fails is told, clash or not. No
+/// answer comes from here: it tells which sets have another one now, and the
+/// corpus draws its older sets by it, so that they stay the same.
 pub fn judge_in_the_old_order(set: &Set) -> Verdict {
     let mut vectors = Shared::new(set, has_safe_vector);
     let mut walks = Shared::new(set, first_endless);
@@ -63,6 +78,15 @@ pub fn judge_in_the_old_order(set: &Set) -> Verdict {
         }
     }
     Verdict::Accepted
+}
+
+/// What is told of a read word without a safe vector: the clash, if there is
+/// one at this word.
+fn without_vector(set: &Set, word: u32) -> Verdict {
+    match holds(set, &bits(word, set.reads.len())) {
+        Holds::Clash(output) => Verdict::Clash(word, output),
+        Holds::Forced(_) => Verdict::NoVector(word),
+    }
 }
 
 /// The bytes of scratch that a verdict on n outputs needs: one bit for each

@@ -1,10 +1,11 @@
 //! Document 01's "Tried by hand", starred and unstarred cases, and document 02's
-//! "No rising edge on power-up" and "Missing vectors come before endless walks".
+//! "No rising edge on power-up", "Missing vectors come before endless walks" and
+//! "Simple constraints that contradict".
 
 use reference::by_hand;
 use reference::damage::P;
 use reference::file::{load, Refusal};
-use reference::filter::holds;
+use reference::filter::{holds, Holds};
 use reference::machine::{scan, start, ScanRefusal, Sent, State};
 use reference::program::line;
 use reference::records::{Case, Kept, Words};
@@ -84,7 +85,9 @@ fn p_at_read_word_0() {
 
 #[test]
 fn p_at_read_word_1() {
-    let held = holds(&p(), &[true]);
+    let Holds::Forced(held) = holds(&p(), &[true]) else {
+        panic!("no clash");
+    };
     assert_eq!(held.iter().filter(|hold| !hold.is_held()).count(), 1);
     assert_eq!(first(&p(), 1, 3), sent(0, 1));
     assert_eq!(first(&p(), 1, 2), sent(0, 0));
@@ -101,7 +104,7 @@ fn p_with_ranks_exchanged() {
 }
 
 #[test]
-fn both_ways_has_no_vector() {
+fn both_ways_is_a_clash() {
     let set = set(
         &[Kind::Sensor],
         1,
@@ -110,8 +113,10 @@ fn both_ways_has_no_vector() {
             &[read(0, false), out(0, false, 0)],
         ],
     );
-    assert_eq!(judge(&set), Verdict::NoVector(1));
-    assert_eq!(start(&set), Err(Verdict::NoVector(1)));
+    assert_eq!(judge(&set), Verdict::Clash(1, 0));
+    assert_eq!(start(&set), Err(Verdict::Clash(1, 0)));
+    assert_eq!(holds(&set, &[true]), Holds::Clash(0));
+    assert!(matches!(holds(&set, &[false]), Holds::Forced(_)));
 }
 
 fn endless() -> Set {
@@ -161,9 +166,10 @@ fn missing_vectors_come_before_endless_walks() {
     let k5 = [pair(&[]), [not_a(false), not_a(true)]];
     let changed = [Verdict::NoEnd(0, 1), Verdict::NoVector(1)];
     assert_eq!(told(1, &k5), changed);
+    let changed = [Verdict::NoEnd(0, 1), Verdict::Clash(1, 0)];
     assert_eq!(told(1, &[pair(&[]), clash(&[s])]), changed);
     // Words 0 and 2 have the pair, 2 and 3 the clash.
-    let changed = [Verdict::NoEnd(0, 1), Verdict::NoVector(2)];
+    let changed = [Verdict::NoEnd(0, 1), Verdict::Clash(2, 0)];
     assert_eq!(told(2, &[pair(&[not_s]), clash(&[t])]), changed);
 }
 
@@ -172,22 +178,23 @@ fn other_rejections_stay() {
     let (s, not_s) = (read(0, false), read(0, true));
     let stays = [Verdict::NoEnd(1, 1); 2];
     assert_eq!(told(1, &[pair(&[s])]), stays);
-    let stays = [Verdict::NoVector(0); 2];
+    let stays = [Verdict::NoVector(0), Verdict::Clash(0, 0)];
     assert_eq!(told(1, &[clash(&[not_s]), pair(&[s])]), stays);
 }
 
 #[test]
 fn missing_vectors_first_as_files() {
-    let lines = by_hand::missing_first().into_iter().map(|case| match case {
-        Case::File { file, .. } => line(&file),
+    let lines = by_hand::missing_first();
+    let lines = lines.iter().map(|case| match case {
+        Case::File { file, .. } => line(file),
         _ => panic!("a file"),
     });
     let told = [
         "NOVECTOR 1\n",
-        "NOVECTOR 1\n",
-        "NOVECTOR 2\n",
+        "CLASH 1 0\n",
+        "CLASH 2 0\n",
         "NOEND 1 1\n",
-        "NOVECTOR 0\n",
+        "CLASH 0 0\n",
     ];
     assert_eq!(lines.collect::<Vec<String>>(), told);
     let set = load(&by_hand::K5).expect("it loads");

@@ -1,16 +1,17 @@
 //! "Missing vectors come before endless walks": which answers change and which
 //! stay, over random sets and over the part of the corpus that is made for it,
-//! and what this part shows of wrong verdicts.
+//! and what this part shows of wrong verdicts. A clash counts as 22, as it did
+//! when that was asked for.
 
 use reference::by_hand;
 use reference::chance::Chance;
-use reference::corpus::edges::stuck;
+use reference::corpus::edges::add_stuck;
 use reference::corpus::misses::{group, needed, sorts, CHANGED};
 use reference::corpus::ordering;
 use reference::corpus::skips::mask;
 use reference::file::load;
 use reference::filter::{is_safe, walk, Walk};
-use reference::making::{read_literals, set, Recipe};
+use reference::making::{set, Recipe};
 use reference::records::Case;
 use reference::set::{bits, Set};
 use reference::verdict::{judge, judge_in_the_old_order, judge_plainly, Verdict};
@@ -62,9 +63,9 @@ impl Tried {
 /// the one group that changes.
 fn is_changed(set: &Set) -> bool {
     let tried = Tried::new(set);
-    let (old, new) = (tried.word_by_word(), judge(set));
+    let (old, new) = (tried.word_by_word(), judge(set).without_clash());
     assert_eq!(judge_in_the_old_order(set), old);
-    assert_eq!(judge_plainly(set), new);
+    assert_eq!(judge_plainly(set), judge(set));
     // "Sets whose first failing word has a safe vector, while some higher word
     // has none, turn from 23 to 22 at the lowest word without one."
     let due = match old {
@@ -90,9 +91,7 @@ fn small_set(chance: &mut Chance) -> Set {
     let mut small = set(chance, recipe, r, n, m);
     for (outputs, times) in [(2, 4), (2, 2), (1, 2)] {
         if !chance.one_in(times) {
-            let guard = read_literals(chance, r, 2);
-            let outputs = &chance.order(n)[..outputs];
-            small.constraints.extend(stuck(&guard, outputs));
+            add_stuck(chance, &mut small, outputs);
         }
     }
     chance.shuffle(&mut small.constraints);
@@ -107,8 +106,8 @@ fn one_group_of_answers_changes() {
         let set = small_set(&mut chance);
         let changed = is_changed(&set);
         let place = match judge(&set) {
-            Verdict::NoVector(_) if changed => 0,
-            Verdict::NoVector(_) => 1,
+            Verdict::NoVector(_) | Verdict::Clash(..) if changed => 0,
+            Verdict::NoVector(_) | Verdict::Clash(..) => 1,
             Verdict::NoEnd(..) => 2,
             Verdict::Accepted => 3,
         };
@@ -171,7 +170,7 @@ fn sorts_are_of_wrong_verdicts() {
     let mut shown = [0; 4];
     for set in part() {
         let tried = Tried::new(&set);
-        let (old, new) = (tried.word_by_word(), judge(&set));
+        let (old, new) = (tried.word_by_word(), judge(&set).without_clash());
         let Verdict::NoEnd(first, _) = old else {
             continue;
         };

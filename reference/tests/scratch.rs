@@ -6,7 +6,7 @@ use reference::corpus::packed::{needed, sorts, told_rightly};
 use reference::corpus::packing;
 use reference::damage::P;
 use reference::file::load;
-use reference::filter::holds;
+use reference::filter::pulls;
 use reference::lent::{sum, FILL};
 use reference::records::Case;
 use reference::set::{bits, Set};
@@ -78,6 +78,7 @@ fn words(verdict: Verdict) -> String {
     match verdict {
         Verdict::Accepted => String::from("0"),
         Verdict::NoVector(word) => format!("22/{word}"),
+        Verdict::Clash(word, output) => format!("58/{word}/{output}"),
         Verdict::NoEnd(word, request) => format!("23/{word}/{request}"),
     }
 }
@@ -151,7 +152,7 @@ fn a_file_is_judged_with_enough_and_one_less() {
         let (before, after) = lines.split_once("SCRATCH").expect("the line");
         assert!(before.contains("\nTEXT "));
         let next = after.lines().nth(1).expect("a line");
-        let starts = ["ACCEPT", "NOVECTOR", "NOEND"];
+        let starts = ["ACCEPT", "NOVECTOR", "NOEND", "CLASH"];
         assert!(starts.iter().any(|word| next.starts_with(word)), "{next}");
     }
 }
@@ -178,7 +179,7 @@ fn files() -> impl Iterator<Item = &'static Member> {
 fn nothing_wrong_is_the_verdict() {
     for member in members() {
         let told = told_rightly(&member.set).expect("few read points");
-        assert_eq!(told, [member.verdict; 2]);
+        assert_eq!(told, [member.verdict.without_clash(); 2]);
     }
 }
 
@@ -189,7 +190,7 @@ fn sorts_by_their_own_words() {
         let n = member.set.outputs.len();
         let sorts = sorts(&member.set);
         let has = |sort: &str| sorts.iter().any(|s| s.ends_with(sort));
-        let no_vector = matches!(member.verdict, Verdict::NoVector(_));
+        let no_vector = matches!(member.verdict.without_clash(), Verdict::NoVector(_));
         let no_end = matches!(member.verdict, Verdict::NoEnd(..));
         assert_eq!(has("other if a walk ended at its own marks"), no_end);
         let beyond = has("the bits from 2^n on counted as safe");
@@ -208,7 +209,7 @@ fn sorts_by_their_own_words() {
 /// True if some output is held at some word.
 fn holds_some(set: &Set) -> bool {
     let r = set.reads.len();
-    let held = |word| holds(set, &bits(word, r)).iter().any(|hold| hold.is_held());
+    let held = |word| pulls(set, &bits(word, r)).iter().any(|hold| hold.is_held());
     (0..1 << r).any(held)
 }
 
@@ -227,7 +228,7 @@ fn sizes_for_each_number_of_outputs() {
         let around = [bit_each, byte_each, 512].map(|size| [size - 1, size, size + 1]);
         let due = [around.concat(), vec![0, 1, 2 * bit_each]].concat();
         assert!(due.iter().all(|size| sizes.contains(size)), "{n}");
-        let words = words(member.verdict);
+        let words = words(member.verdict.without_clash());
         let number = words.split('/').next().expect("a number");
         seen.insert((n, number.to_string(), member.set.rest.is_empty()));
         holding += usize::from(holds_some(&member.set));

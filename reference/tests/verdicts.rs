@@ -1,7 +1,7 @@
 //! The verdict against document 01 read plainly, and accepted sets in use.
 
 use reference::chance::Chance;
-use reference::filter::{holds, is_safe, pass, start_vector, walk, Walk};
+use reference::filter::{is_safe, pass, pulls, start_vector, walk, Walk};
 use reference::machine::{scan, start, ScanRefusal, State};
 use reference::making::{scans, set, Recipe};
 use reference::set::{bits, word, Kind, Set};
@@ -31,7 +31,7 @@ fn small_sets(seed: u64, count: usize) -> Vec<Set> {
 
 #[test]
 fn judging_by_active_constraints_is_judging() {
-    let mut seen = [0; 3];
+    let mut seen = [0; 4];
     for set in small_sets(3, 60) {
         let verdict = judge(&set);
         assert_eq!(verdict, judge_plainly(&set));
@@ -39,6 +39,7 @@ fn judging_by_active_constraints_is_judging() {
             Verdict::Accepted => seen[0] += 1,
             Verdict::NoVector(_) => seen[1] += 1,
             Verdict::NoEnd(..) => seen[2] += 1,
+            Verdict::Clash(..) => seen[3] += 1,
         }
     }
     assert!(seen.iter().all(|&count| count > 10), "{seen:?}");
@@ -51,7 +52,7 @@ fn planted_sets_are_accepted_and_clashing_ones_not() {
         let planted = set(&mut chance, Recipe::Planted, 3, 4, 10);
         assert_eq!(judge(&planted), Verdict::Accepted);
         let clash = set(&mut chance, Recipe::Clash, 3, 4, 10);
-        assert!(matches!(judge(&clash), Verdict::NoVector(_)));
+        assert!(matches!(judge(&clash), Verdict::Clash(..)));
     }
 }
 
@@ -60,7 +61,7 @@ fn the_named_word_fails_as_said() {
     for set in small_sets(11, 40) {
         let (bad, request) = match judge(&set) {
             Verdict::Accepted => continue,
-            Verdict::NoVector(bad) => (bad, None),
+            Verdict::NoVector(bad) | Verdict::Clash(bad, _) => (bad, None),
             Verdict::NoEnd(bad, request) => (bad, Some(request)),
         };
         let n = set.outputs.len();
@@ -74,9 +75,9 @@ fn the_named_word_fails_as_said() {
     }
 }
 
-/// A walk as the scan has it: at most 2^f - 1 passes.
+/// A walk as document 01's scan has it: at most 2^f - 1 passes, at a clash too.
 fn bounded_walk(set: &Set, reads: &[bool], request: &[bool]) -> Walk {
-    let holds = holds(set, reads);
+    let holds = pulls(set, reads);
     let unheld = holds.iter().filter(|hold| !hold.is_held()).count();
     let mut vector = start_vector(&holds, request);
     for passes in 0..1 << unheld {
@@ -123,7 +124,7 @@ fn lists_of_scans_keep_demand_3() {
             let reads = read_bits(&set, sensor, past);
             let n = set.outputs.len();
             assert!(is_safe(&set, &reads, &bits(sent.vector, n)));
-            let held = holds(&set, &reads);
+            let held = pulls(&set, &reads);
             let unheld = held.iter().filter(|hold| !hold.is_held()).count();
             assert!(sent.passes < 1 << unheld);
             let asked = bits(u32::from(request), n);

@@ -57,7 +57,7 @@ impl Trouble {
         match self {
             Trouble::Nothing => verdict == Verdict::Accepted,
             Trouble::Clash | Trouble::Against | Trouble::Shut => {
-                matches!(verdict, Verdict::NoVector(_))
+                matches!(verdict.without_clash(), Verdict::NoVector(_))
             }
             _ => matches!(verdict, Verdict::NoEnd(..)),
         }
@@ -171,7 +171,7 @@ impl Plan {
     fn is_there(&self, verdict: Verdict) -> bool {
         match verdict {
             Verdict::Accepted => true,
-            Verdict::NoVector(word) | Verdict::NoEnd(word, _) => {
+            Verdict::NoVector(word) | Verdict::Clash(word, _) | Verdict::NoEnd(word, _) => {
                 let guard = constraint(&self.guard, &[]);
                 read_literals_true(&guard, &bits(word, self.r))
             }
@@ -530,6 +530,7 @@ mod tests {
                     let expected = match verdict {
                         Verdict::Accepted => Verdict::Accepted,
                         Verdict::NoVector(at) => Verdict::NoVector(word(at)),
+                        Verdict::Clash(at, output) => Verdict::Clash(word(at), output),
                         Verdict::NoEnd(at, request) => Verdict::NoEnd(word(at), request),
                     };
                     assert_eq!(judge_plainly(set), expected, "{places:?}");

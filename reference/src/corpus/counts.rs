@@ -3,13 +3,14 @@
 
 use super::marks::{sorts, Pairs};
 use super::misses;
+use super::namings;
 use super::packed;
 use super::skips;
 use super::starts;
 use super::{long, texts};
 use crate::answer::answer;
 use crate::file::load;
-use crate::filter::{holds, pass, start_vector};
+use crate::filter::{holds, pass, start_vector, Holds};
 use crate::machine::{scan, taken, ScanRefusal, State};
 use crate::raw::{form, well_formed, Form};
 use crate::records::{Case, List, Words};
@@ -23,15 +24,17 @@ pub type Counts = BTreeMap<String, usize>;
 /// The most scans behind a state.
 pub const MOST_SCANS: usize = 681;
 
-/// What a corpus must have, and how many at least; `skips`, `misses`, `packed`
-/// and `starts` have more of it.
+/// What a corpus must have, and how many at least; `skips`, `misses`, `packed`,
+/// `namings` and `starts` have more of it.
 const NEEDED: &[(&str, usize)] = &[
     ("F cases", 5000),
     ("F ACCEPT", 1000),
     ("F NOVECTOR", 150),
+    ("F CLASH", 500),
     ("F NOEND", 150),
     ("F JUDGE ACCEPT", 1000),
     ("F JUDGE NOVECTOR", 150),
+    ("F JUDGE CLASH", 500),
     ("F JUDGE NOEND", 150),
     ("F JUDGE LOAD", 2000),
     ("F LOAD 1", 1),
@@ -48,8 +51,9 @@ const NEEDED: &[(&str, usize)] = &[
     ("F LOAD 12", 1),
     ("F SCRATCH 0", 1000),
     ("F SCRATCH 21", 2000),
-    ("F SCRATCH 22", 500),
+    ("F SCRATCH 22", 300),
     ("F SCRATCH 23", 200),
+    ("F SCRATCH 58", 500),
     ("F SCANS sent", 20_000),
     ("F SCANS !31", 1000),
     ("F SCANS !32", 1000),
@@ -101,6 +105,7 @@ const NEEDED: &[(&str, usize)] = &[
     ("S 33, f 2 to 11, first pass flips", 50),
     ("S 33, f 2 to 11, first pass flips nothing", 50),
     ("S 33, f 12, first pass flips", 5),
+    ("S 33, a clash", 300),
     ("S STATE that ends at mark 0", 50),
     ("S STATE that ends at mark 1", 500),
     ("S states of mark 0", 300),
@@ -161,11 +166,13 @@ const NEEDED: &[(&str, usize)] = &[
     ("B JUDGES 21", 100),
     ("B JUDGES 22", 50),
     ("B JUDGES 23", 15),
+    ("B JUDGES 58", 300),
     ("B JUDGES that were 21", 450),
     ("B STARTS 0", 100),
     ("B STARTS 21", 100),
     ("B STARTS 22", 50),
     ("B STARTS 23", 15),
+    ("B STARTS 58", 300),
     ("B LINES 0", 100),
     ("B LINES put", 100),
     ("B TEXTS 0", 100),
@@ -185,6 +192,7 @@ const NEEDED: &[(&str, usize)] = &[
     ("R SET verdict 20", 250),
     ("R SET verdict 22", 3),
     ("R SET verdict 23", 1),
+    ("R SET verdict 58", 10),
     ("R NAMES R", 50),
     ("R NAMES O", 50),
     ("R NAMES !20", 1000),
@@ -195,6 +203,7 @@ const NEEDED: &[(&str, usize)] = &[
     ("R STATE !31", 3),
     ("R STATE !32", 3),
     ("R STATE !33", 3),
+    ("R 33, a clash", 10),
     ("R STATE that ends at mark 0", 100),
     ("R STATE that ends at mark 1", 100),
     ("R states of mark 0", 100),
@@ -215,6 +224,7 @@ pub fn missing(counts: &Counts) -> Vec<String> {
     needed
         .chain(misses::needed())
         .chain(packed::needed())
+        .chain(namings::needed())
         .chain(starts::needed())
         .filter(|(key, least)| !enough(key, *least))
         .map(|(key, _)| key)
@@ -270,7 +280,7 @@ fn sorts_of_line(line: &str) -> Vec<String> {
         "JUDGE" | "LOAD" => vec![words[..2].join(" ")],
         "WRITE" => vec![format!("WRITE {}", words[2])],
         "TEXT" => vec![String::from(sort_of_text(words[1]))],
-        "ACCEPT" | "NOVECTOR" | "NOEND" => vec![words[0].to_string()],
+        "ACCEPT" | "NOVECTOR" | "NOEND" | "CLASH" => vec![words[0].to_string()],
         "SET" => ["write", "verdict", "text"]
             .iter()
             .zip(&words[1..])
@@ -338,6 +348,7 @@ fn sorts_of_case(case: &Case, answer: &str) -> Vec<String> {
             sorts.extend(load(file).iter().flat_map(skips::sorts));
             sorts.extend(load(file).iter().flat_map(misses::sorts));
             sorts.extend(load(file).iter().flat_map(packed::sorts));
+            sorts.extend(load(file).iter().flat_map(namings::sorts));
             sorts.extend(sorts_of_rest(file, answer));
             sorts
         }
@@ -355,6 +366,8 @@ fn sorts_of_case(case: &Case, answer: &str) -> Vec<String> {
         Case::Buffers { file, sizes } => {
             let mut sorts = sorts_of_sizes(load(file).ok(), sizes);
             sorts.extend(group(load(file).ok()));
+            let of_sizes = |set: &Set| namings::of_sizes(set, sizes);
+            sorts.extend(load(file).iter().flat_map(of_sizes));
             sorts
         }
         Case::Names { .. } => Vec::new(),
@@ -470,13 +483,14 @@ fn sorts_of_list(set: Option<Set>, list: &Option<List>) -> Vec<String> {
         let state = State::by_hand(&set, first);
         sorts_of.extend(sorts(&state, scans));
         sorts_of.extend(starts::by_hand(&state, scans));
+        sorts_of.extend(namings::of_list(&state, scans));
         sorts_of.extend(sorts_of_33(state, scans));
     }
     sorts_of
 }
 
-/// The scans from a hand-made state that are refused by 33, by what f is and
-/// by what the first pass does.
+/// The scans from a hand-made state that are refused by 33: at a clash, or by
+/// what f is and by what the first pass does.
 fn sorts_of_33(mut state: State, scans: &[Words]) -> Vec<String> {
     let mut sorts = Vec::new();
     for &(sensor, request) in scans {
@@ -490,7 +504,9 @@ fn sorts_of_33(mut state: State, scans: &[Words]) -> Vec<String> {
 
 fn sort_of_33(state: &State, sensor: u32, request: u16) -> Option<String> {
     let (reads, asked) = taken(state, sensor, request).ok()?;
-    let holds = holds(&state.set, &reads);
+    let Holds::Forced(holds) = holds(&state.set, &reads) else {
+        return Some(String::from("33, a clash"));
+    };
     let free = holds.iter().filter(|hold| !hold.is_held()).count();
     let first = start_vector(&holds, &asked);
     let moves = pass(&state.set, &reads, &holds, &first) != first;

@@ -8,7 +8,7 @@ use super::states::kept;
 use crate::chance::Chance;
 use crate::file::write;
 use crate::machine::State;
-use crate::making::{scans, towards};
+use crate::making::{read_literals, scans, towards};
 use crate::records::{Case, Kept, List, Words};
 use crate::set::{Constraint, Kind, Literal, Point, Set};
 use std::collections::BTreeMap;
@@ -218,6 +218,13 @@ pub fn stuck(guard: &[Literal], outputs: &[usize]) -> Vec<Constraint> {
         Constraint { literals }
     };
     [false, true].map(constraint).to_vec()
+}
+
+/// Adds such constraints of so many outputs by chance, behind some read literals.
+pub fn add_stuck(chance: &mut Chance, set: &mut Set, count: usize) {
+    let guard = read_literals(chance, set.reads.len(), 2);
+    let outputs = chance.order(set.outputs.len());
+    set.constraints.extend(stuck(&guard, &outputs[..count]));
 }
 
 /// A few scans, up to two of them sure to be refused and first; now and then

@@ -5,13 +5,14 @@ use crate::file::load;
 use crate::making::scans;
 use crate::records::Case;
 
-const EXAMPLES: [&[u8]; 6] = [
+const EXAMPLES: [&[u8]; 7] = [
     include_bytes!("../../../examples/p.set"),
     include_bytes!("../../../examples/parcel-hall.set"),
     include_bytes!("../../../examples/sorting.set"),
     include_bytes!("../../../examples/sorting-mended.set"),
     include_bytes!("../../../examples/pusher.set"),
     include_bytes!("../../../examples/brake.set"),
+    include_bytes!("../../../examples/outfeed.set"),
 ];
 
 const SCANS_EACH: usize = 60;
@@ -46,10 +47,11 @@ mod tests {
         let said = [
             "JUDGE ACCEPT 1 2 2",
             "JUDGE ACCEPT 3 4 5",
-            "JUDGE NOVECTOR 176",
+            "JUDGE CLASH 176 4",
             "JUDGE ACCEPT 16 7 22",
             "JUDGE ACCEPT 3 2 3",
             "JUDGE ACCEPT 2 2 4",
+            "JUDGE NOVECTOR 7",
         ];
         assert_eq!(lines, said);
     }

@@ -7,7 +7,7 @@
 //! at a safe vector. No answer comes from it.
 
 use super::skips::mask;
-use crate::filter::{holds, pass, read_literals_true, start_vector};
+use crate::filter::{pass, pulls, read_literals_true, start_vector};
 use crate::set::{bits, word, Constraint, Point, Set};
 use crate::verdict::Verdict;
 use std::collections::HashMap;
@@ -32,7 +32,7 @@ impl At {
     fn new(set: &Set, read_word: u32) -> At {
         let n = set.outputs.len();
         let reads = bits(read_word, set.reads.len());
-        let holds = holds(set, &reads);
+        let holds = pulls(set, &reads);
         let active = set.constraints.iter();
         let active = active.filter(|constraint| read_literals_true(constraint, &reads));
         let active: Vec<Constraint> = active.cloned().collect();

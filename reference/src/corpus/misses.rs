@@ -6,7 +6,7 @@
 //! has none, and 23 is told only where there is no such word.
 
 use super::skips::{mask, mask_of, PLACES, READINGS};
-use crate::filter::{holds, is_safe, walk, Walk};
+use crate::filter::{holds, is_safe, walk, Holds, Walk};
 use crate::set::{bits, Constraint, Set};
 use crate::verdict::{judge, judge_in_the_old_order, Verdict};
 use std::collections::{HashMap, HashSet};
@@ -176,7 +176,7 @@ pub fn group(set: &Set) -> Option<&'static str> {
     match judge(set) {
         Verdict::Accepted => None,
         Verdict::NoEnd(..) => Some(NO_END),
-        Verdict::NoVector(_) => match judge_in_the_old_order(set) {
+        Verdict::NoVector(_) | Verdict::Clash(..) => match judge_in_the_old_order(set) {
             Verdict::NoEnd(..) => Some(CHANGED),
             _ => Some(NO_VECTOR),
         },
@@ -184,21 +184,21 @@ pub fn group(set: &Set) -> Option<&'static str> {
 }
 
 /// What is so at a read word.
-struct Word {
+pub struct Word {
     mask: u64,
     /// Whether each vector is safe.
     safe: Vec<bool>,
     /// Whether each vector makes no combined constraint true.
     safe_if_combined: Vec<bool>,
-    /// True if some output is held both ways.
-    clashes: bool,
+    /// The lowest output that is forced both ways.
+    pub clash: Option<usize>,
     /// The first and the last request whose walk is never safe, if there is a
     /// safe vector.
-    endless: Option<(u16, u16)>,
+    pub endless: Option<(u16, u16)>,
 }
 
 impl Word {
-    fn has_vector(&self) -> bool {
+    pub fn has_vector(&self) -> bool {
         self.safe.contains(&true)
     }
 
@@ -210,7 +210,10 @@ impl Word {
             constraints: set.constraints.iter().filter(combined).cloned().collect(),
             ..set.clone()
         };
-        let clashes = holds(set, &reads).iter().any(|hold| hold.f0 && hold.f1);
+        let clash = match holds(set, &reads) {
+            Holds::Clash(output) => Some(output),
+            Holds::Forced(_) => None,
+        };
         let endless = match safe.contains(&true) {
             true => endless(set, &reads),
             false => None,
@@ -219,7 +222,7 @@ impl Word {
             mask: mask(set, word),
             safe_if_combined: safe_vectors(&combined, &reads),
             safe,
-            clashes,
+            clash,
             endless,
         }
     }
@@ -243,16 +246,16 @@ fn endless(set: &Set, reads: &[bool]) -> Option<(u16, u16)> {
 }
 
 /// All read words of a set.
-struct Words {
-    all: Vec<Rc<Word>>,
+pub struct Words {
+    pub all: Vec<Rc<Word>>,
     /// The mask of the simple constraints.
     simple: u64,
     /// The endless word, if there is one.
-    first: Option<usize>,
+    pub first: Option<usize>,
 }
 
 impl Words {
-    fn new(set: &Set) -> Words {
+    pub fn new(set: &Set) -> Words {
         let mut known: HashMap<u64, Rc<Word>> = HashMap::new();
         let word = |word: u32| {
             let new = || Rc::new(Word::new(set, word));
@@ -274,7 +277,7 @@ impl Words {
     }
 
     /// True if there is no safe vector at a word.
-    fn lacks(&self, word: usize) -> bool {
+    pub fn lacks(&self, word: usize) -> bool {
         !self.all[word].has_vector()
     }
 
@@ -296,7 +299,7 @@ impl Words {
     }
 
     /// 23 at a word, with the first endless request of another.
-    fn no_end(&self, word: usize, other: usize) -> Verdict {
+    pub fn no_end(&self, word: usize, other: usize) -> Verdict {
         let (request, _) = self.all[other].endless.unwrap_or_default();
         Verdict::NoEnd(word as u32, request)
     }
@@ -342,7 +345,7 @@ const SEARCHES: &[Search] = &[
         !words.all[at].safe_if_combined.contains(&true)
     }),
     ("combined constraints were not tried", |words, at| {
-        words.all[at].clashes
+        words.all[at].clash.is_some()
     }),
 ];
 
@@ -426,13 +429,18 @@ const TELLINGS: &[Telling] = &[
     }),
 ];
 
+/// True if a set has few enough points to be counted.
+pub fn are_few(set: &Set) -> bool {
+    set.reads.len() <= MOST_READS && set.outputs.len() <= MOST_OUTPUTS
+}
+
 /// What a set counts as: its group, and in it each sort once.
 pub fn sorts(set: &Set) -> Vec<String> {
     let Some(group) = group(set) else {
         return Vec::new();
     };
     let mut sorts = vec![String::from(group)];
-    if set.reads.len() <= MOST_READS && set.outputs.len() <= MOST_OUTPUTS {
+    if are_few(set) {
         let words = Words::new(set);
         let others = [
             sorts_of_size(set, &words),

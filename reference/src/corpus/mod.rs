@@ -2,6 +2,7 @@
 
 pub mod active;
 pub mod broken;
+pub mod clashes;
 pub mod counters;
 pub mod counts;
 pub mod edges;
@@ -13,6 +14,7 @@ pub mod marking;
 pub mod marks;
 pub mod misses;
 pub mod names;
+pub mod namings;
 pub mod order;
 pub mod packed;
 pub mod paths;
@@ -53,7 +55,13 @@ pub fn corpus(seed: u64) -> Vec<Case> {
     cases.extend(order::others(&mut part(12)));
     cases.extend(resting(seed));
     cases.extend(packing(seed));
+    cases.extend(clashing(seed));
     cases
+}
+
+/// The part of the sets whose simple constraints contradict.
+pub fn clashing(seed: u64) -> Vec<Case> {
+    clashes::cases(&mut part(seed, 15))
 }
 
 /// The part of the sets with a rest word.

@@ -76,7 +76,7 @@ impl Plan {
 }
 
 /// Constraints behind these read literals that lead to one vector.
-fn leading(chance: &mut Chance, n: usize, reads: &[Guard]) -> Vec<Constraint> {
+pub fn leading(chance: &mut Chance, n: usize, reads: &[Guard]) -> Vec<Constraint> {
     let target: Vec<bool> = (0..n).map(|_| chance.one_in(2)).collect();
     let behind = |reads: &Guard| {
         let mut literals = reads.clone();
@@ -87,7 +87,7 @@ fn leading(chance: &mut Chance, n: usize, reads: &[Guard]) -> Vec<Constraint> {
 }
 
 /// Constraints by which a walk is endless; some way for so many outputs.
-fn endless(chance: &mut Chance, n: usize, guard: &[Literal]) -> Vec<Constraint> {
+pub fn endless(chance: &mut Chance, n: usize, guard: &[Literal]) -> Vec<Constraint> {
     let outputs = chance.order(n);
     match chance.below(n.min(3) + 1) {
         0 => Trouble::Loop.constraints(guard, &outputs),
@@ -116,7 +116,7 @@ fn missing(chance: &mut Chance, n: usize, guard: &[Literal]) -> Vec<Constraint> 
 }
 
 /// Two outputs are held on, and may not both be.
-fn pinned(guard: &[Literal], outputs: &[usize]) -> Vec<Constraint> {
+pub fn pinned(guard: &[Literal], outputs: &[usize]) -> Vec<Constraint> {
     let (one, other) = (outputs[0], outputs[1]);
     vec![
         constraint(guard, &[(one, true, 0)]),
@@ -160,7 +160,7 @@ fn fails(set: &Set, no_end: &[u32], no_vector: &[u32]) -> bool {
 fn told(verdict: Verdict) -> Option<u32> {
     match verdict {
         Verdict::Accepted => None,
-        Verdict::NoVector(word) | Verdict::NoEnd(word, _) => Some(word),
+        Verdict::NoVector(word) | Verdict::Clash(word, _) | Verdict::NoEnd(word, _) => Some(word),
     }
 }
 

@@ -250,7 +250,7 @@ pub fn sorts(set: &Set) -> Vec<String> {
         return Vec::new();
     }
     let words = Words::new(set);
-    let right = judge(set);
+    let right = judge(set).without_clash();
     let wrong = [wrong_ways(&words, right), wrong_judges(&words, right)].concat();
     let sort = |(place, name): &(&str, &str)| sort(group(right), place, name);
     wrong.iter().map(sort).collect()
@@ -293,7 +293,7 @@ fn wrong_judges(words: &Words, right: Verdict) -> Vec<Step> {
 fn group(verdict: Verdict) -> &'static str {
     match verdict {
         Verdict::Accepted => GROUPS[0],
-        Verdict::NoVector(_) => GROUPS[1],
+        Verdict::NoVector(_) | Verdict::Clash(..) => GROUPS[1],
         Verdict::NoEnd(..) => GROUPS[2],
     }
 }

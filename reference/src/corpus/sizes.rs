@@ -8,10 +8,11 @@ use crate::chance::Chance;
 use crate::damage::P;
 use crate::file::{load, write};
 use crate::making::{set, Recipe};
-use crate::program::line;
+use crate::program::judged;
 use crate::records::Case;
 use crate::set::Kind;
 use crate::text::text;
+use crate::verdict::judge;
 
 const SETS_EACH: usize = 11;
 const LARGEST: usize = 40_000;
@@ -42,20 +43,26 @@ pub fn cases(chance: &mut Chance) -> Vec<Case> {
         .collect()
 }
 
-/// No bytes, one, and sizes around each length that is needed.
+/// Sizes around each length that a file needs, if it is a good one.
 pub fn sizes(file: &[u8]) -> Vec<u16> {
+    let Ok(set) = load(file) else {
+        return around(&[]);
+    };
+    around(&[
+        file.len(),
+        // The scratch when it was a byte for each vector.
+        1 << set.outputs.len(),
+        // The line when no clash was named.
+        judged(&set, judge(&set).without_clash()).len(),
+        text(&set).len(),
+    ])
+}
+
+/// No bytes, one, and sizes around each of these lengths.
+pub fn around(lengths: &[usize]) -> Vec<u16> {
     let mut sizes = vec![0, 1];
-    if let Ok(set) = load(file) {
-        let needed = [
-            file.len(),
-            // The scratch when it was a byte for each vector.
-            1 << set.outputs.len(),
-            line(file).len(),
-            text(&set).len(),
-        ];
-        for length in needed {
-            sizes.extend([length - 1, length, length + 1, length + 100]);
-        }
+    for length in lengths {
+        sizes.extend([length - 1, *length, length + 1, length + 100]);
     }
     sizes.sort();
     sizes.dedup();

@@ -4,7 +4,7 @@
 //! The active constraints of a read word are those whose read literals are all
 //! true there. The mask of the word has bit i if constraint i is active.
 
-use crate::filter::{holds, is_safe, pass, read_literals_true, start_vector};
+use crate::filter::{is_safe, pass, pulls, read_literals_true, start_vector};
 use crate::set::{bits, word, Constraint, Point, Set};
 use crate::verdict::{judge, Verdict};
 use std::collections::HashSet;
@@ -180,7 +180,7 @@ pub fn sorts_by(set: &Set, verdict: Verdict) -> Vec<String> {
             sorts.extend(sorts_of_walks(set, &firsts(&masks)));
             "accepted"
         }
-        Verdict::NoVector(word) => {
+        Verdict::NoVector(word) | Verdict::Clash(word, _) => {
             sorts.extend(sorts_of_failing(set, &masks, word));
             "22"
         }
@@ -303,7 +303,7 @@ struct Path {
 fn path(set: &Set, read_word: u32, request: u32) -> Path {
     let n = set.outputs.len();
     let reads = bits(read_word, set.reads.len());
-    let holds = holds(set, &reads);
+    let holds = pulls(set, &reads);
     let mut vector = start_vector(&holds, &bits(request, n));
     let mut vectors = vec![word(&vector)];
     let mut back = None;

@@ -220,6 +220,7 @@ pub fn of_set(set: &Set, answer: &str) -> Vec<String> {
         ("that is accepted", answer.contains("\nACCEPT\n")),
         ("that is rejected by 22", answer.contains("\nNOVECTOR ")),
         ("that is rejected by 23", answer.contains("\nNOEND ")),
+        ("that is rejected by 58", answer.contains("\nCLASH ")),
     ];
     if rest == 0 {
         return Vec::new();
@@ -251,6 +252,7 @@ pub fn needed() -> Vec<(String, usize)> {
         ("F rest word that is accepted", 250),
         ("F rest word that is rejected by 22", 20),
         ("F rest word that is rejected by 23", 10),
+        ("F rest word that is rejected by 58", 20),
         ("F 0x06 refused by 1", 10),
         ("F 0x06 refused by 2", 20),
         ("F 0x06 refused by 4", 20),
