@@ -25,7 +25,7 @@ use Rattle.line.specs.Line.{spaced, lineBytes, lineAnswer, bufferAfter, 
 one-piece : (w x t0 t1 t2 end : List ℕ) → t0 ≡ w → t1 ≡ t0 ++ x → t2 ≡ t1 ++ end → t2 ≡ w ++ x ++ end
 one-piece w x t0 t1 t2 end e0 e1 e2 = e2 ∙ ap (λ (l : List ℕ). l ++ end) (e1 ∙ ap (λ (l : List ℕ). l ++ x) e0)
 
-two-pieces : (w x y t0 t1 t2 t3 end : List ℕ) → t0 ≡ w → t1 ≡ t0 ++ x → t2 ≡ t1 ++ y → t3 ≡ t2 ++ end → t3 ≡ w ++ x ++ y ++ end
+pub two-pieces : (w x y t0 t1 t2 t3 end : List ℕ) → t0 ≡ w → t1 ≡ t0 ++ x → t2 ≡ t1 ++ y → t3 ≡ t2 ++ end → t3 ≡ w ++ x ++ y ++ end
 two-pieces w x y t0 t1 t2 t3 end e0 e1 e2 e3 = e3 ∙ ap (λ (l : List ℕ). l ++ end) (one-piece w x t0 t1 t2 y e0 e1 e2)
 
 three-pieces : (w x y z t0 t1 t2 t3 t4 end : List ℕ) → t0 ≡ w → t1 ≡ t0 ++ x → t2 ≡ t1 ++ y → t3 ≡ t2 ++ z → t4 ≡ t3 ++ end → t4 ≡ w ++ x ++ y ++ z ++ end
@@ -37,25 +37,14 @@ module _ (l : Line) where
   unfolding lineBytes
   accept-made r n m t0 t1 t2 t3 t4 h e0 e1 e2 e3 e4 = three-pieces _ (spaced r) (spaced n) (spaced m) t0 t1 t2 t3 t4 _ e0 e1 e2 e3 e4 ∙ ap lineBytes (sym h)
 
-  pub load-made : (number offset : ℕ) (t0 t1 t2 t3 : List ℕ) → l ≡ Load number offset → t0 ≡ 0x4C ∷ 0x4F ∷ 0x41 ∷ 0x44 ∷ []
-      → t1 ≡ t0 ++ spaced number → t2 ≡ t1 ++ spaced offset → t3 ≡ t2 ++ (0x0A ∷ []) → t3 ≡ lineBytes l
-  unfolding lineBytes
-  load-made number offset t0 t1 t2 t3 h e0 e1 e2 e3 = two-pieces _ (spaced number) (spaced offset) t0 t1 t2 t3 _ e0 e1 e2 e3 ∙ ap lineBytes (sym h)
-
   pub no-vector-made : (word : ℕ) (t0 t1 t2 : List ℕ) → l ≡ NoVector word → t0 ≡ 0x4E ∷ 0x4F ∷ 0x56 ∷ 0x45 ∷ 0x43 ∷ 0x54 ∷ 0x4F ∷ 0x52 ∷ []
       → t1 ≡ t0 ++ spaced word → t2 ≡ t1 ++ (0x0A ∷ []) → t2 ≡ lineBytes l
   unfolding lineBytes
   no-vector-made word t0 t1 t2 h e0 e1 e2 = one-piece _ (spaced word) t0 t1 t2 _ e0 e1 e2 ∙ ap lineBytes (sym h)
 
-  pub clash-made : (word output : ℕ) (t0 t1 t2 t3 : List ℕ) → l ≡ Clash word output → t0 ≡ 0x43 ∷ 0x4C ∷ 0x41 ∷ 0x53 ∷ 0x48 ∷ []
-      → t1 ≡ t0 ++ spaced word → t2 ≡ t1 ++ spaced output → t3 ≡ t2 ++ (0x0A ∷ []) → t3 ≡ lineBytes l
-  unfolding lineBytes
-  clash-made word output t0 t1 t2 t3 h e0 e1 e2 e3 = two-pieces _ (spaced word) (spaced output) t0 t1 t2 t3 _ e0 e1 e2 e3 ∙ ap lineBytes (sym h)
-
-  pub no-end-made : (word request : ℕ) (t0 t1 t2 t3 : List ℕ) → l ≡ NoEnd word request → t0 ≡ 0x4E ∷ 0x4F ∷ 0x45 ∷ 0x4E ∷ 0x44 ∷ []
-      → t1 ≡ t0 ++ spaced word → t2 ≡ t1 ++ spaced request → t3 ≡ t2 ++ (0x0A ∷ []) → t3 ≡ lineBytes l
-  unfolding lineBytes
-  no-end-made word request t0 t1 t2 t3 h e0 e1 e2 e3 = two-pieces _ (spaced word) (spaced request) t0 t1 t2 t3 _ e0 e1 e2 e3 ∙ ap lineBytes (sym h)
+  -- a line whose bytes were made at once
+  pub two-made : (x : Line) (bytes : List ℕ) → l ≡ x → bytes ≡ lineBytes x → bytes ≡ lineBytes l
+  two-made x bytes h e = e ∙ ap lineBytes (sym h)
 
 -- one byte more of a list's first i, which are in place at the front
 pub put-front : (buf bytes : List ℕ) (i : ℕ) → i < length buf → i < length bytes

@@ -5,9 +5,10 @@ use super::draft::with_number;
 use super::draft::word_draft;
 ghost use mathlib.Core.Path.{_≡_};
 ghost use Prim.Native.Nat.{_+_, _≤_};
-ghost use lib.ListN.{length};
+ghost use mathlib.Core.List.{[], _∷_, _++_};
+ghost use lib.ListN.{length, take};
 ghost use Rattle.writer.specs.way.Write.{putAt};
-ghost use Rattle.line.specs.Line.{lineBytes, lineAnswer, bufferAfter};
+ghost use Rattle.line.specs.Line.{spaced, lineBytes, lineAnswer, bufferAfter};
 ghost use Rattle.line.specs.way.Draft.{draftBytes};
 
 // Accepted, with the counts of read points, outputs and constraints; or the refusal of the load and its offset; or why the verdict rejects the set.
@@ -19,6 +20,15 @@ pub enum Line {
     NoEnd { word: u32, request: u16 },
 }
 
+// A word and two numbers, and the line's end.
+fn two_draft(word: [u8; 8], len: usize, a: usize, b: usize) -> Draft
+    requires { ⌜ len ≤ 8 ⌝ }
+    ensures { λ x. ⌜ (x .len ≤ 80) × (draftBytes x ≡ take len word ++ spaced a ++ spaced b ++ (0x0A ∷ [])) ⌝ }
+{
+    let t = with_number(word_draft(word, len), a);
+    with_byte(with_number(t, b), 0x0A)
+}
+
 // The line's bytes.
 fn line_draft(line: Line) -> Draft
     ensures { λ x. ⌜ (x .len ≤ 80) × (draftBytes x ≡ lineBytes line) ⌝ }
@@ -28,22 +38,23 @@ fn line_draft(line: Line) -> Draft
             let t = with_number(word_draft(*b"ACCEPT\0\0", 6), r);
             with_byte(with_number(with_number(t, n), m), 0x0A)
         },
-        Line::Load { number, offset } => {
-            let t = with_number(word_draft(*b"LOAD\0\0\0\0", 4), number as usize);
-            with_byte(with_number(t, offset), 0x0A)
-        },
+        Line::Load { number, offset } => two_draft(*b"LOAD\0\0\0\0", 4, number as usize, offset),
         Line::NoVector { word } => {
             let t = word_draft(*b"NOVECTOR", 8);
             with_byte(with_number(t, word as usize), 0x0A)
         },
-        Line::Clash { word, output } => {
-            let t = with_number(word_draft(*b"CLASH\0\0\0", 5), word as usize);
-            with_byte(with_number(t, output as usize), 0x0A)
-        },
-        Line::NoEnd { word, request } => {
-            let t = with_number(word_draft(*b"NOEND\0\0\0", 5), word as usize);
-            with_byte(with_number(t, request as usize), 0x0A)
-        },
+        Line::Clash { word, output } => two_draft(
+            *b"CLASH\0\0\0",
+            5,
+            word as usize,
+            output as usize,
+        ),
+        Line::NoEnd { word, request } => two_draft(
+            *b"NOEND\0\0\0",
+            5,
+            word as usize,
+            request as usize,
+        ),
     }
 }
 

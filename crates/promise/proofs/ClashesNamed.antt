@@ -1,15 +1,15 @@
 -- Change request K10: the verdict beside the one before it, which gave 22 where an output is forced both ways too.
 -- Assumes nothing.
 use mathlib.Core.Path.{_≡_, refl, sym, ap, _∙_, subst}
-use mathlib.Core.Bool.{Bool, true, false, cond, not}
-use mathlib.Core.List.{List, [], _∷_}
+use mathlib.Core.Bool.{Bool, true, false, cond}
+use mathlib.Core.List.{[], _∷_}
 use mathlib.Core.Logic.{_↔_, _≢_, inl, inr}
 use Prim.Native.Nat.{ℕ, _^_, _≤_, _<_}
 use lib.Dec.{ltb}
 use borrow.Author.Tests.{lt-ltb, le-ltb, ltb-true, ltb-false}
 use Rattle.words.specs.Loop.{first}
 use Rattle.words.proofs.BoolLaws.{by-test}
-use Rattle.words.proofs.LoopLaws.{First, first-spec, first-is}
+use Rattle.words.proofs.LoopLaws.{first-spec, first-is}
 use Rattle.scan.specs.declared.set.Set.{Set}
 use Rattle.scan.specs.Shape.{wellFormed}
 use Rattle.scan.specs.Holds.{F0, F1}

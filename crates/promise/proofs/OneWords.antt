@@ -1,10 +1,9 @@
 -- Judging and walking by the active constraints of a read word: what the mask says bit by bit, and document 01's answers.
 -- Assumes nothing.
-use mathlib.Core.Path.{_≡_, sym, ap, _∙_}
+use mathlib.Core.Path.{_≡_, sym, _∙_}
 use mathlib.Core.Bool.{true}
 use mathlib.Core.Logic.{_↔_}
 use Prim.Native.Nat.{ℕ, _<_}
-use Rattle.words.specs.Word.{bit}
 use Rattle.words.proofs.BitLaws.{bit-below}
 use Rattle.scan.specs.declared.set.Set.{Set}
 use Rattle.scan.specs.Set.{constraint}

@@ -1,7 +1,7 @@
 -- Worked cases: the starred ones of document 01's "Tried by hand", the edge case as change request K2 has it, those for what they leave open, some of
 -- them from the bytes of a file, and those of change requests K5, K6, K8 and K10.
 -- Assumes nothing.
-use Prim.Native.Nat.{ℕ, _^_}
+use Prim.Native.Nat.{ℕ}
 use mathlib.Core.Path.{_≡_}
 use mathlib.Core.Bool.{true, false, cond, _||_}
 use mathlib.Core.List.{List, [], _∷_, _++_, map}

@@ -30,7 +30,7 @@ use Rattle.scan.specs.Constraint.{outsTrue, safe}
 use Rattle.scan.specs.Active.{activeOf}
 use Rattle.scan.specs.Holds.{F0, F1, NoneBoth, holdsOf, unheldBy, unheld, unheldCount, passLimit, startFrom, startVector}
 use Rattle.scan.specs.Pass.{yielding, yields, fires, flips, pass}
-use Rattle.scan.specs.Walk.{walkBy, walkHeld, walk}
+use Rattle.scan.specs.Walk.{walkHeld, walk}
 use Rattle.scan.specs.way.Holds.{holdsBy, limitBy}
 use Rattle.scan.specs.way.Columns.{columnsOf, entryTrue}
 use Rattle.scan.specs.way.Table.{outputsIn, unheldIn, yieldsIn, emptyTable, withEntry, withCount, tableUpto, filledUp, tableBy, tableOf, entryFlips, flipsOver, passOver, anyTrue, safeOver, safeHeld, safeIn, passIn, walkIn}

@@ -40,6 +40,7 @@ abbrev pub noneBy : ℕ → Holds → Verdict
 noneBy w (Forced f0 f1) = NoVector w
 noneBy w (HoldsClash k) = Clash w k
 
+-- by the holds of the set there
 unfoldable pub noneAt : Set → ℕ → Verdict
 noneAt s w = noneBy w (holdsOf s w)
 

@@ -8,7 +8,6 @@ use Rattle.words.specs.Word.{bit}
 use Rattle.words.specs.Loop.{first}
 use Rattle.words.proofs.BitLaws.{bit-and, bit-zero, no-bits}
 use Rattle.words.proofs.LoopLaws.{first-is}
-use Rattle.scan.specs.declared.holds.Holds.{Holds}
 use Rattle.scan.specs.declared.holds.Holds.the-variants.{Forced, Clash}
 use Rattle.scan.specs.Holds.{bothWays, reckoned}
 use Rattle.scan.proofs.HoldsLaws.{reckoned-clash, reckoned-forced, by-reckoned}
