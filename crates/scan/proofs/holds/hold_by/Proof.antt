@@ -79,7 +79,8 @@ returns c =
     let e = c .before in
     let l = e .before .loop in
     let a = e .before .before .before .args in
-    c .reckon .ensures
+    let told : c .reckon .result ≡ reckoned (l .f0) (l .f1) = c .reckon .ensures in
+    told
     ∙ done (a .plain .now) (a .negated .now) (a .m) (a .holding) (l .f0) (l .f1) (l .i) (omega arith) (l .inv .1) (l .inv .2)
 
 pub hold-by-spec : {M : Type 1} → statement M
