@@ -16,6 +16,7 @@ use Rattle.scan.proofs.ShapeLaws.{counts}
 use Rattle.verdict.specs.declared.verdict.Verdict.{Verdict}
 use Rattle.verdict.specs.declared.verdict.Verdict.the-variants.{NoEnd}
 use Rattle.verdict.proofs.verdict.Verdict.{the-type}
+use Rattle.verdict.specs.Judge.{noneAt}
 use Rattle.verdict.specs.FirstFailing.{firstFailing}
 use Rattle.verdict.proofs.MeaningLaws.{judge-without}
 use Rattle.verdict.proofs.FailingStays.{found-stays, found-within, none-up-to, stays-endless}
@@ -80,7 +81,8 @@ returns c =
     let t = c .before in
     let w = t .before .before in
     let f = w .before .before .before in
-    c .none-at .ensures ∙ sym (judge-without (set f) (w .first-without .result) (w .first-without .ensures) (omega (arith, words-is f, t .if1 .taken)))
+    let told : c .none-at .result ≡ noneAt (set f) (w .first-without .result) = c .none-at .ensures in
+    told ∙ sym (judge-without (set f) (w .first-without .result) (w .first-without .ensures) (omega (arith, words-is f, t .if1 .taken)))
 
 returns-2 : tie.Need-returns-2
 returns-2 c =
