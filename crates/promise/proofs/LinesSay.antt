@@ -25,7 +25,7 @@ use Rattle.line.specs.declared.printer.Line.{Line}
 use Rattle.line.specs.declared.printer.Line.the-variants.{Accept, Load, NoVector, Clash, NoEnd}
 use Rattle.line.specs.Line.{spaced, lineBytes, lineAnswer, bufferAfter, verdictLine, answerLine, lineOf}
 use Rattle.line.proofs.LoadedSets.{loaded-judged}
-use Rattle.promise.proofs.ExactVerdicts.{told-clash}
+use Rattle.promise.proofs.ExactVerdicts.{told-accepted, told-word, told-clash, told-request}
 use Rattle.promise.specs.Lines.{IsDecimal, NumbersThenEnd, IsLine, acceptWord, loadWord, noVectorWord, clashWord, noEndWord, programScratch, LineSays}
 
 -- ---- numbers
@@ -63,46 +63,24 @@ one-line word a = let end : List ℕ = 0x0A ∷ [] in (spaced a ++ end, append-a
 -- ---- by the answer of the load and the verdict
 
 module _ (s : Set) (v : Verdict) where
+  -- told by its number and values the verdict is one
+  by-verdict : (word numbers : List ℕ) (x : Verdict) → v ≡ x → IsLine word numbers (lineBytes (verdictLine s x)) → IsLine word numbers (lineBytes (verdictLine s v))
+  by-verdict word numbers x e l = subst (λ (y : Verdict). IsLine word numbers (lineBytes (verdictLine s y))) (sym e) l
+
   verdict-accepted : verdictTold v ≡ 0 ∷ [] → IsLine acceptWord (s .r ∷ s .n ∷ s .m ∷ []) (lineBytes (verdictLine s v))
-  verdict-accepted e = go v e
-    where
-      go : (x : Verdict) → verdictTold x ≡ 0 ∷ [] → IsLine acceptWord (s .r ∷ s .n ∷ s .m ∷ []) (lineBytes (verdictLine s x))
-      go Accepted h = accept-line (s .r) (s .n) (s .m)
-      go BadSet h = absurd (omega (arith, ap (λ (l : List ℕ). getD l 0 0) h))
-      go ShortScratch h = absurd (omega (arith, ap (λ (l : List ℕ). getD l 0 0) h))
-      go (WordNoVector w) h = absurd (omega (arith, ap (λ (l : List ℕ). getD l 0 0) h))
-      go (WordClash w k) h = absurd (omega (arith, ap (λ (l : List ℕ). getD l 0 0) h))
-      go (WordNoEnd w g) h = absurd (omega (arith, ap (λ (l : List ℕ). getD l 0 0) h))
+  verdict-accepted e = by-verdict acceptWord (s .r ∷ s .n ∷ s .m ∷ []) Accepted (told-accepted v e) (accept-line (s .r) (s .n) (s .m))
 
   verdict-no-vector : (w : ℕ) → verdictTold v ≡ 22 ∷ w ∷ [] → IsLine noVectorWord (w ∷ []) (lineBytes (verdictLine s v))
   unfolding lineBytes
-  verdict-no-vector w e = go v e
-    where
-      go : (x : Verdict) → verdictTold x ≡ 22 ∷ w ∷ [] → IsLine noVectorWord (w ∷ []) (lineBytes (verdictLine s x))
-      go Accepted h = absurd (omega (arith, ap (λ (l : List ℕ). getD l 0 0) h))
-      go BadSet h = absurd (omega (arith, ap (λ (l : List ℕ). getD l 0 0) h))
-      go ShortScratch h = absurd (omega (arith, ap (λ (l : List ℕ). getD l 0 0) h))
-      go (WordNoVector u) h = subst (λ (x : ℕ). IsLine noVectorWord (x ∷ []) (lineBytes (NoVector u))) (ap (λ (l : List ℕ). getD l 1 0) h) (one-line noVectorWord u)
-      go (WordClash u k) h = absurd (omega (arith, ap (λ (l : List ℕ). getD l 0 0) h))
-      go (WordNoEnd u g) h = absurd (omega (arith, ap (λ (l : List ℕ). getD l 0 0) h))
+  verdict-no-vector w e = by-verdict noVectorWord (w ∷ []) (WordNoVector w) (told-word v w e) (one-line noVectorWord w)
 
   verdict-clash : (w k : ℕ) → verdictTold v ≡ 58 ∷ w ∷ k ∷ [] → IsLine clashWord (w ∷ k ∷ []) (lineBytes (verdictLine s v))
   unfolding lineBytes
-  verdict-clash w k e = subst (λ (x : Verdict). IsLine clashWord (w ∷ k ∷ []) (lineBytes (verdictLine s x))) (sym (told-clash v w k e)) (two-line clashWord w k)
+  verdict-clash w k e = by-verdict clashWord (w ∷ k ∷ []) (WordClash w k) (told-clash v w k e) (two-line clashWord w k)
 
   verdict-no-end : (w g : ℕ) → verdictTold v ≡ 23 ∷ w ∷ g ∷ [] → IsLine noEndWord (w ∷ g ∷ []) (lineBytes (verdictLine s v))
   unfolding lineBytes
-  verdict-no-end w g e = go v e
-    where
-      go : (x : Verdict) → verdictTold x ≡ 23 ∷ w ∷ g ∷ [] → IsLine noEndWord (w ∷ g ∷ []) (lineBytes (verdictLine s x))
-      go Accepted h = absurd (omega (arith, ap (λ (l : List ℕ). getD l 0 0) h))
-      go BadSet h = absurd (omega (arith, ap (λ (l : List ℕ). getD l 0 0) h))
-      go ShortScratch h = absurd (omega (arith, ap (λ (l : List ℕ). getD l 0 0) h))
-      go (WordNoVector u) h = absurd (omega (arith, ap (λ (l : List ℕ). getD l 0 0) h))
-      go (WordClash u k) h = absurd (omega (arith, ap (λ (l : List ℕ). getD l 0 0) h))
-      go (WordNoEnd u r) h =
-          subst (λ (x : ℕ). IsLine noEndWord (x ∷ g ∷ []) (lineBytes (NoEnd u r))) (ap (λ (l : List ℕ). getD l 1 0) h)
-          (subst (λ (x : ℕ). IsLine noEndWord (u ∷ x ∷ []) (lineBytes (NoEnd u r))) (ap (λ (l : List ℕ). getD l 2 0) h) (two-line noEndWord u r))
+  verdict-no-end w g e = by-verdict noEndWord (w ∷ g ∷ []) (WordNoEnd w g) (told-request v w g e) (two-line noEndWord w g)
 
 -- the line of a loaded file is that of its verdict
 loaded-line : (s : Set) (room : ℕ) (a : LoadAnswer) → loadTold a ≡ 0 ∷ [] → answerLine s room a ≡ verdictLine s (judgeOf s room)

@@ -125,7 +125,7 @@ safe-byte-bit plain named count e is f0 f1 chosen b j l =
     ∙ outward kept (bit j (lowHeld f0 f1)) (bit j chosen) none
     ∙ ap (λ (x : Bool). bit j chosen && (x && none)) (held-bit b j l f0 f1)
 
--- by a table: all the safe ones
+-- by the holds: all the safe ones, and none at a clash
 safe-byte-held : (h : Holds) (plain named : List ℕ) (count b j : ℕ) → j < 8 → bit j (safeByteHeld h plain named count b) ≡ safeHeld h plain named count (8 * b + j)
 unfolding safeOver
 safe-byte-held (Forced f0 f1) plain named count b j l =
@@ -136,6 +136,7 @@ safe-byte-held (Forced f0 f1) plain named count b j l =
     ∙ ap (λ (x : Bool). x && none) (held-bit b j l f0 f1)
 safe-byte-held (Clash k) plain named count b j l = bit-zero j
 
+-- by a table
 pub safe-byte-in : (t : Table) (b j : ℕ) → j < 8 → bit j (safeByteIn t b) ≡ safeIn t (8 * b + j)
 unfolding safeByteIn
 safe-byte-in t b j l = safe-byte-held (t .holds) (t .plain) (t .named) (t .count) b j l

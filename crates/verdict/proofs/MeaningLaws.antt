@@ -38,7 +38,7 @@ module _ (s : Set) where
   module _ (ok : wellFormed s ≡ true) where
     -- ---- and by what it means
 
-    pub no-vectors : (w : ℕ) → FirstWithout s w → judgeWords s ≡ noneAt s w
+    no-vectors : (w : ℕ) → FirstWithout s w → judgeWords s ≡ noneAt s w
     no-vectors w f =
         judge-without w (sym (first-is (2 ^ s .r) w (lacks s) (f .within) (none-lacks s w (f .none)) (λ u l. has-lacks s u (f .before u l)))) (f .within)
 
