@@ -6,8 +6,8 @@
 #include <stdio.h>
 #include <string.h>
 
-enum { MOST_READS = 16, MOST_OUTPUTS = 12, MOST_POINTS = 24, MOST_CONSTRAINTS = 64, NAME_PLACES = 8 };
-enum { MOST_FILE = 4096, MOST_SCRATCH = 512, PLACES = 251, LANES = 16, WORDS = 8, TRAIL = 1024 };
+enum { MOST_READS = 20, MOST_OUTPUTS = 12, MOST_POINTS = 24, MOST_CONSTRAINTS = 64, NAME_PLACES = 8 };
+enum { MOST_FILE = 8192, MOST_SCRATCH = 512, PLACES = 251, LANES = 16, WORDS = 8, TRAIL = 1024, SIGN_BITS = 32 };
 enum kind { SENSOR, PAST_OUTPUT, PAST_SENSOR };
 
 struct read_point {
@@ -611,16 +611,27 @@ static struct sent scan(struct state *st, uint32_t sensor, uint16_t request)
 
 // ---- loading
 
-enum tag { TAG_COUNTS = 1, TAG_READ, TAG_OUTPUT, TAG_CONSTRAINT, TAG_END, TAG_REST };
+// TAG_WIDE is that of a constraint that names a read point above 15, TAG_CONSTRAINT that of every other.
+enum tag { TAG_COUNTS = 1, TAG_READ, TAG_OUTPUT, TAG_CONSTRAINT, TAG_END, TAG_REST, TAG_WIDE, TAGS };
 
 // By tag: the shortest body, the longest body, and what a body's length is a multiple of.
-static const uint8_t lengths[7][3] = { { 0, 0, 1 }, { 2, 2, 1 }, { 3, 10, 1 }, { 1, 8, 1 }, { 2, 48, 2 }, { 0, 0, 1 }, { 2, 2, 1 } };
+static const uint8_t lengths[TAGS][3] = { { 0, 0, 1 }, { 2, 2, 1 }, { 3, 10, 1 }, { 1, 8, 1 }, { 2, 48, 2 }, { 0, 0, 1 }, { 2, 2, 1 }, { 3, 72, 3 } };
 
 struct field {
     uint8_t tag;
     size_t len;
     const uint8_t *body;
 };
+
+static bool is_constraint(uint8_t tag)
+{
+    return tag == TAG_CONSTRAINT || tag == TAG_WIDE;
+}
+
+static bool is_due(uint8_t due, uint8_t tag)
+{
+    return tag == due || (due == TAG_CONSTRAINT && (tag == TAG_END || tag == TAG_WIDE));
+}
 
 // Refusals 1 to 4, or 0 and the field at `at`.
 static unsigned take_field(const uint8_t *file, size_t len, size_t at, uint8_t due, size_t m, struct field *f)
@@ -632,9 +643,9 @@ static unsigned take_field(const uint8_t *file, size_t len, size_t at, uint8_t d
     f->body = file + at + 3;
     if (len - at - 3 < f->len)
         return 1;
-    if (f->tag != due && !(due == TAG_CONSTRAINT && f->tag == TAG_END))
+    if (!is_due(due, f->tag))
         return 2;
-    if (f->tag == TAG_CONSTRAINT && m == MOST_CONSTRAINTS)
+    if (is_constraint(f->tag) && m == MOST_CONSTRAINTS)
         return 3;
     if (f->len < lengths[f->tag][0] || f->len > lengths[f->tag][1] || f->len % lengths[f->tag][2] != 0)
         return 4;
@@ -679,44 +690,69 @@ static unsigned load_output(struct set *s, size_t j, const struct field *f)
     return is_used(s, s->r, j, p->name) ? 8 : 0;
 }
 
-static bool is_literal(const struct set *s, uint8_t first, uint8_t rank)
+// A literal as its bytes say it; clear: the bits that have to be zero are.
+struct said {
+    bool clear, out, negated;
+    uint8_t number, rank;
+};
+
+// The literal at place i of a body: two bytes, or three with TAG_WIDE.
+static struct said said_at(const uint8_t *body, size_t i, uint8_t tag)
 {
-    size_t number = first & 0x0F;
-    if ((first & 0x30) != 0)
-        return false;
-    if ((first & 0x40) != 0)
-        return number < s->n;
-    return rank == 0 && number < s->r;
+    uint8_t first = body[i];
+    bool out = (first & 0x40) != 0, negated = (first & 0x80) != 0;
+    if (tag == TAG_WIDE)
+        return (struct said){ (first & 0x3F) == 0, out, negated, body[i + 1], body[i + 2] };
+    return (struct said){ (first & 0x30) == 0, out, negated, first & 0x0F, body[i + 1] };
 }
 
-static void add_literal(struct constraint *c, uint8_t first, uint8_t rank)
+static bool is_literal(const struct set *s, struct said l)
 {
-    size_t number = first & 0x0F;
-    bool negated = (first & 0x80) != 0;
-    if ((first & 0x40) != 0) {
-        *(negated ? &c->out_negated : &c->out_plain) |= (uint16_t)(1u << number);
-        c->ranks[number] = rank;
-    } else {
-        *(negated ? &c->read_negated : &c->read_plain) |= (uint32_t)1 << number;
-    }
+    if (!l.clear)
+        return false;
+    if (l.out)
+        return l.number < s->n;
+    return l.rank == 0 && l.number < s->r;
+}
+
+// The masks of a word of literals: a bit for the place of each plain one, and SIGN_BITS above it for that of each negated one.
+static void put_masks(struct constraint *c, uint64_t word)
+{
+    uint32_t plain = (uint32_t)word, negated = (uint32_t)(word >> SIGN_BITS);
+    c->read_plain = plain % (1u << MOST_READS);
+    c->read_negated = negated % (1u << MOST_READS);
+    c->out_plain = (uint16_t)(plain >> MOST_READS);
+    c->out_negated = (uint16_t)(negated >> MOST_READS);
+}
+
+// Whether the constraint names a read point above 15.
+static bool names_high(const struct constraint *c)
+{
+    return (c->read_plain | c->read_negated) >> 16 != 0;
 }
 
 static unsigned load_constraint(struct set *s, const struct field *f)
 {
     struct constraint *c = &s->constraints[s->m];
-    size_t next = 0;
-    for (size_t i = 0; i < f->len; i += 2) {
-        uint8_t first = f->body[i], rank = f->body[i + 1];
-        if (!is_literal(s, first, rank))
+    uint64_t word = 0;
+    size_t next = 0, step = lengths[f->tag][2];
+    for (size_t i = 0; i < f->len; i += step) {
+        struct said l = said_at(f->body, i, f->tag);
+        if (!is_literal(s, l))
             return 9;
-        size_t place = (first & 0x0F) + ((first & 0x40) != 0 ? 16u : 0u);
+        size_t place = l.number + (l.out ? (size_t)MOST_READS : 0);
         if (place < next)
             return 10;
-        add_literal(c, first, rank);
+        word |= (uint64_t)1 << (place + (size_t)l.negated * SIGN_BITS);
         next = place + 1;
+        if (l.out)
+            c->ranks[l.number] = l.rank;
     }
+    put_masks(c, word);
     s->m++;
-    return next <= 16 ? 11 : 0;
+    if (f->tag == TAG_WIDE && !names_high(c))
+        return 59;
+    return next <= MOST_READS ? 11 : 0;
 }
 
 static unsigned load_rest(struct set *s, const struct field *f)
@@ -786,7 +822,8 @@ static size_t file_length(const struct set *s)
         len += 5;
     for (size_t i = 0; i < s->m; i++) {
         const struct constraint *c = &s->constraints[i];
-        len += 3 + 2 * (size_t)(__builtin_popcount(c->read_plain | c->read_negated) + __builtin_popcount(c->out_plain | c->out_negated));
+        size_t literals = (size_t)(__builtin_popcount(c->read_plain | c->read_negated) + __builtin_popcount(c->out_plain | c->out_negated));
+        len += 3 + literals * (names_high(c) ? 3 : 2);
     }
     return len;
 }
@@ -807,12 +844,14 @@ static uint8_t *put_name(uint8_t *to, const uint8_t *name)
     return to;
 }
 
-// The literals of the points that are named, numbered from `base` on; the rank is 0 where there are no ranks.
-static uint8_t *put_literals(uint8_t *to, uint8_t base, uint32_t negated, uint32_t named, const uint8_t *ranks)
+// The literals of the points that are named, numbered from `base` on; the rank is 0 where there are no ranks. The number of a wide one is a byte of its own.
+static uint8_t *put_literals(uint8_t *to, bool wide, uint8_t base, uint32_t negated, uint32_t named, const uint8_t *ranks)
 {
     for (; named != 0; named &= named - 1) {
         unsigned k = (unsigned)__builtin_ctz(named);
-        *to++ = (uint8_t)((negated >> k & 1) << 7 | base | k);
+        *to++ = (uint8_t)((negated >> k & 1) << 7 | base | (wide ? 0 : k));
+        if (wide)
+            *to++ = (uint8_t)k;
         *to++ = ranks == NULL ? 0 : ranks[k];
     }
     return to;
@@ -846,9 +885,10 @@ static void put_file(const struct set *s, uint8_t *buf)
     for (size_t i = 0; i < s->m; i++) {
         field = end;
         const struct constraint *c = &s->constraints[i];
-        end = put_literals(field + 3, 0, c->read_negated, c->read_plain | c->read_negated, NULL);
-        end = put_literals(end, 0x40, c->out_negated, c->out_plain | c->out_negated, c->ranks);
-        put_header(field, TAG_CONSTRAINT, end);
+        bool wide = names_high(c);
+        end = put_literals(field + 3, wide, 0, c->read_negated, c->read_plain | c->read_negated, NULL);
+        end = put_literals(end, wide, 0x40, c->out_negated, c->out_plain | c->out_negated, c->ranks);
+        put_header(field, wide ? TAG_WIDE : TAG_CONSTRAINT, end);
     }
     put_header(end, TAG_END, end + 3);
 }
@@ -1055,7 +1095,7 @@ static uint32_t write_often(const struct set *s, uint32_t times)
     uint32_t sum = SUM_BEGIN;
     for (; times > 0; times--) {
         sum = mix(sum, write_set(s, buf, sizeof buf));
-        sum = mix(sum, buf[times % 4096]);
+        sum = mix(sum, buf[times % MOST_FILE]);
     }
     return sum;
 }

@@ -1,4 +1,4 @@
-"""Set files and lists of scans for the benchmark, made from fixed seeds. The form of a set file is document 01's, with change request K6's rest word."""
+"""Set files and lists of scans for the benchmark, made from fixed seeds. The form of a set file is document 01's, with K6's rest word and K11's tag 0x07."""
 import random
 import struct
 
@@ -14,13 +14,16 @@ class Set:
         fields += [(2, bytes([0, 0]) + name) for name in self.reads]
         fields += [(3, name) for name in self.outputs]
         fields += [(6, struct.pack(">H", self.rest))] if self.rest else []
-        fields += [(4, b"".join(literal(*l) for l in c)) for c in self.constraints]
+        fields += [constraint(c) for c in self.constraints]
         fields += [(5, b"")]
         return b"".join(struct.pack(">BH", tag, len(body)) + body for tag, body in fields)
 
 
-def literal(number, is_output, negated, rank):
-    return bytes([negated << 7 | is_output << 6 | number, rank])
+def constraint(literals):
+    """Tag and body: literals of three bytes where a read point above 15 is named, else of two."""
+    if any(number > 15 for number, *_ in literals):
+        return 7, b"".join(bytes([negated << 7 | is_output << 6, number, rank]) for number, is_output, negated, rank in literals)
+    return 4, b"".join(bytes([negated << 7 | is_output << 6 | number, rank]) for number, is_output, negated, rank in literals)
 
 
 def names(letter, count):
@@ -39,6 +42,15 @@ def falling(r, n, m, read_literals, seed):
         outs = [(k, True, k != lowest and rng.random() < 0.5, 0 if k == lowest else rng.randint(1, 3)) for k in outputs]
         constraints.append(reads + outs)
     return Set(names(b"s", r), names(b"a", n), constraints)
+
+
+def falling_behind_masks(r, n, m, seed):
+    """The constraints of `falling` without read literals, the first r of them each behind a read point of its own: no two read words have the same
+    active constraints. That takes r constraints with read literals, each active at half of the words at most, so that no such set has more active."""
+    rng = random.Random(seed)
+    falls = falling(r, n, m, 0, seed)
+    behind = [[(k, False, rng.random() < 0.5, 0)] + c for k, c in enumerate(falls.constraints[:r])]
+    return Set(falls.reads, falls.outputs, behind + falls.constraints[r:])
 
 
 def circling_at_word_0(r, n, m, late, seed):
@@ -65,22 +77,24 @@ def counter(n, splits):
     return Set([], names(b"a", n), constraints)
 
 
-def counter_behind_masks(r, n, splits, m):
-    """The counter, with copies of its constraints up to m of them, each copy behind one of r sensors in turn: no two read words have the same
-    active constraints, and the walks are the counter's at every one."""
+def counter_behind_masks(r, n, splits, m, behind):
+    """The counter, with copies of its constraints up to m of them, the last so many behind one of r sensors each, in turn: no two read words have
+    the same active constraints, and the walks are the counter's at every one."""
     plain = counter(n, splits)
-    copies = [[(i % r, False, False, 0)] + plain.constraints[i] for i in range(m - len(plain.constraints))]
-    return Set(names(b"s", r), plain.outputs, plain.constraints + copies)
+    copies = [plain.constraints[i % len(plain.constraints)] for i in range(m)]
+    masked = [[(i % r, False, False, 0)] + c for i, c in enumerate(copies[m - behind:])]
+    return Set(names(b"s", r), plain.outputs, copies[:m - behind] + masked)
 
 
-def largest():
-    """The longest file that there is: 16 read points, 8 outputs, names of 8 bytes, a rest word, 64 constraints of 24 literals."""
+def largest(r, n):
+    """The longest file with so many points: names of 8 bytes, a rest word, 64 constraints that name all points. With 20 read points and 4 outputs it
+    is the longest that there is, with 16 and 8 the longest without tag 0x07."""
     rng = random.Random(5)
     constraints = []
     for _ in range(64):
-        reads = [(k, False, rng.random() < 0.5, 0) for k in range(16)]
-        constraints.append(reads + [(k, True, rng.random() < 0.5, rng.randint(0, 255)) for k in range(8)])
-    return Set([b"sensor%02d" % k for k in range(16)], [b"output%02d" % k for k in range(8)], constraints, 0xA5)
+        reads = [(k, False, rng.random() < 0.5, 0) for k in range(r)]
+        constraints.append(reads + [(k, True, rng.random() < 0.5, rng.randint(0, 255)) for k in range(n)])
+    return Set([b"sensor%02d" % k for k in range(r)], [b"output%02d" % k for k in range(n)], constraints, 0xA5 % 2**n)
 
 
 def scans(sensors, n, count, seed):

@@ -14,7 +14,8 @@ use crate::verdict::{judge, scratch_bytes, Verdict};
 /// A text that is not longer than this is printed in full.
 const SHOWN_TEXT: usize = 600;
 
-/// The buffers that a set made by hand is written and printed into.
+/// The buffers that a set made by hand is written and printed into. A file may
+/// be longer.
 const FILE_BUFFER: usize = 4096;
 const TEXT_BUFFER: usize = 40_000;
 
@@ -285,7 +286,7 @@ mod tests {
             answer(&Case::File { file, scans })
         };
         assert_eq!(of(Vec::new()), "JUDGE LOAD 1 0\nLOAD 1 0\n");
-        let long = [[1, 0, 2, 0, 1, 3, 16, 0].as_slice(), &[b'x'; 4096]].concat();
+        let long = [[1, 0, 2, 0, 1, 3, 32, 0].as_slice(), &[b'x'; 8192]].concat();
         assert_eq!(of(long), "JUDGE LOAD 1 5\nLOAD 4 5\n");
         let both_ways = [
             1, 0, 2, 0, 1, 3, 0, 1, b'A', 4, 0, 2, 64, 0, 4, 0, 2, 192, 0,

@@ -261,6 +261,53 @@ fn resting_states() -> Vec<Case> {
     cases
 }
 
+/// Files for document 02's "Twenty sensors" with the answers to them, in the
+/// words of another author.
+const TWENTY: &str = include_str!("../twenty.txt");
+
+/// A file of these and what loading it is to answer: nothing if it loads, else
+/// refusal and offset.
+pub type Told = (Vec<u8>, Option<(u8, usize)>);
+
+/// Those files with the answers.
+pub fn twenty_told() -> Vec<Told> {
+    let lines = TWENTY.lines().filter(|line| !line.starts_with('#'));
+    lines.filter_map(told).collect()
+}
+
+/// The answer, what the file is, and its bytes in hexadecimal.
+fn told(line: &str) -> Option<Told> {
+    let [answer, _, file]: [&str; 3] = line.split('|').collect::<Vec<_>>().try_into().ok()?;
+    let file = file.trim().as_bytes().chunks(2);
+    let byte = |digits: &[u8]| u8::from_str_radix(std::str::from_utf8(digits).ok()?, 16).ok();
+    let file: Option<Vec<u8>> = file.map(byte).collect();
+    let refusal = match answer.trim().split_once(' ') {
+        Some((number, offset)) => Some((number.parse().ok()?, offset.parse().ok()?)),
+        None => None,
+    };
+    Some((file?, refusal))
+}
+
+/// Those files, with scans up to a word of bit 20 for those that load.
+pub fn twenty() -> Vec<Case> {
+    let case = |(file, _): Told| Case::File {
+        file,
+        scans: [
+            0,
+            1,
+            1 << 16,
+            (1 << 16) + 1,
+            (1 << 17) - 1,
+            1 << 17,
+            1 << 19,
+            1 << 20,
+        ]
+        .map(|sensor| (sensor, 1))
+        .to_vec(),
+    };
+    twenty_told().into_iter().map(case).collect()
+}
+
 /// The cases in the order of the paper; for the last, files that are refused.
 pub fn cases() -> Vec<Case> {
     let case = |file: Vec<u8>, scans: &[Words]| Case::File {

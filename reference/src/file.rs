@@ -1,4 +1,4 @@
-//! Set files: loading with refusals 1 to 12 and 54, and writing.
+//! Set files: loading with refusals 1 to 12, 54 and 59, and writing.
 
 use crate::set::{ones, Constraint, Kind, Literal, Point, ReadPoint, Set};
 
@@ -24,8 +24,18 @@ const OUTPUT: u8 = 3;
 const CONSTRAINT: u8 = 4;
 const END: u8 = 5;
 const REST: u8 = 6;
+/// A constraint whose literals have three bytes.
+const WIDE: u8 = 7;
 
+/// The most read points, and the most constraints of both tags together.
+const MOST_READS: usize = 20;
 const MOST_CONSTRAINTS: usize = 64;
+
+/// The most literals of a constraint.
+const MOST_LITERALS: usize = 24;
+
+/// The highest number that a literal of two bytes has room for.
+const LAST_NARROW: usize = 15;
 
 struct Field<'a> {
     offset: usize,
@@ -116,7 +126,7 @@ fn counts(field: &Field) -> Result<(usize, usize), Refusal> {
         return field.refuse(4);
     };
     let (r, n) = (usize::from(r), usize::from(n));
-    field.need(r <= 16 && (1..=12).contains(&n) && r + n <= 24, 5)?;
+    field.need(r <= MOST_READS && (1..=12).contains(&n) && r + n <= 24, 5)?;
     Ok((r, n))
 }
 
@@ -169,15 +179,20 @@ fn rest(field: &Field, n: usize) -> Result<Vec<usize>, Refusal> {
     Ok(rest)
 }
 
-/// Field 0x04: literals of 2 bytes.
+/// Field 0x04 or 0x07: literals of 2 bytes, or of 3.
 fn constraint(field: &Field, set: &Set) -> Result<Constraint, Refusal> {
-    field.need(field.tag == CONSTRAINT, 2)?;
+    let size = match field.tag {
+        CONSTRAINT => 2,
+        WIDE => 3,
+        _ => return field.refuse(2),
+    };
     field.need(set.constraints.len() < MOST_CONSTRAINTS, 3)?;
     let length = field.body.len();
-    field.need((2..=48).contains(&length) && length.is_multiple_of(2), 4)?;
+    let lengths = size..=MOST_LITERALS * size;
+    field.need(lengths.contains(&length) && length.is_multiple_of(size), 4)?;
     let mut literals: Vec<Literal> = Vec::new();
-    for pair in field.body.chunks_exact(2) {
-        let Some(literal) = literal(pair[0], pair[1], set) else {
+    for bytes in field.body.chunks_exact(size) {
+        let Some(literal) = literal(bytes, set) else {
             return field.refuse(9);
         };
         let rises = literals
@@ -186,25 +201,36 @@ fn constraint(field: &Field, set: &Set) -> Result<Constraint, Refusal> {
         field.need(rises, 10)?;
         literals.push(literal);
     }
+    field.need(field.tag != WIDE || literals.iter().any(is_wide), 59)?;
     field.need(literals.iter().any(Literal::is_output), 11)?;
     Ok(Constraint { literals })
 }
 
-/// A literal from its two bytes, or nothing where refusal 9 is due.
-fn literal(first: u8, rank: u8, set: &Set) -> Option<Literal> {
-    let negated = first >= 0x80;
-    let sort = first % 0x80 / 0x10;
-    let number = usize::from(first % 0x10);
-    let point = match sort {
+/// A literal from its bytes, or nothing where refusal 9 is due. Of two bytes
+/// the first has the number in its low half, of three the second is the number;
+/// the last is the rank.
+fn literal(bytes: &[u8], set: &Set) -> Option<Literal> {
+    let (marks, number, rank) = match *bytes {
+        [first, rank] => (first - first % 16, first % 16, rank),
+        [marks, number, rank] => (marks, number, rank),
+        _ => return None,
+    };
+    let number = usize::from(number);
+    let point = match marks % 0x80 {
         0 if number < set.reads.len() && rank == 0 => Point::Read(number),
-        4 if number < set.outputs.len() => Point::Output(number),
+        0x40 if number < set.outputs.len() => Point::Output(number),
         _ => return None,
     };
     Some(Literal {
         point,
-        negated,
+        negated: marks >= 0x80,
         rank,
     })
+}
+
+/// True if a literal names a read point that has no room in two bytes.
+fn is_wide(literal: &Literal) -> bool {
+    matches!(literal.point, Point::Read(number) if number > LAST_NARROW)
 }
 
 /// Field 0x05, and nothing after it.
@@ -244,8 +270,7 @@ pub fn write(set: &Set) -> Vec<u8> {
         put_field(&mut file, REST, &set.rest_word().to_be_bytes());
     }
     for constraint in &set.constraints {
-        let body: Vec<u8> = constraint.literals.iter().flat_map(literal_bytes).collect();
-        put_field(&mut file, CONSTRAINT, &body);
+        put_constraint(&mut file, constraint);
     }
     put_field(&mut file, END, &[]);
     file
@@ -267,13 +292,25 @@ pub fn put_into(bytes: &[u8], buffer: &mut [u8]) -> Written {
     }
 }
 
-fn literal_bytes(literal: &Literal) -> [u8; 2] {
-    let sign = if literal.negated { 0x80 } else { 0 };
-    let place = match literal.point {
-        Point::Read(number) => low(number),
-        Point::Output(number) => 0x40 + low(number),
-    };
-    [sign + place, literal.rank]
+/// Appends a constraint: with literals of three bytes if it names a read point
+/// that needs them, else of two.
+fn put_constraint(file: &mut Vec<u8>, constraint: &Constraint) {
+    let literals = &constraint.literals;
+    let is_wide = literals.iter().any(is_wide);
+    let mut body = Vec::new();
+    for literal in literals {
+        let (mark, number) = match literal.point {
+            Point::Read(number) => (0, low(number)),
+            Point::Output(number) => (0x40, low(number)),
+        };
+        let marks = mark + if literal.negated { 0x80 } else { 0 };
+        if is_wide {
+            body.extend([marks, number, literal.rank]);
+        } else {
+            body.extend([marks + number, literal.rank]);
+        }
+    }
+    put_field(file, if is_wide { WIDE } else { CONSTRAINT }, &body);
 }
 
 /// Appends one field.

@@ -4,7 +4,7 @@ use crate::file::{load, put_into, Written};
 use crate::set::Set;
 use crate::verdict::{judge, Verdict};
 
-const MOST_BYTES: usize = 4096;
+const MOST_BYTES: usize = 8192;
 
 /// The line for what stands on standard input, with its newline.
 pub fn line(input: &[u8]) -> String {

@@ -8,7 +8,7 @@ use crate::records::SET_BYTES;
 use crate::set::{ones, Constraint, Kind, Literal, Point, ReadPoint, Set};
 
 /// How many places there are, and the bytes of each.
-pub const READS: usize = 16;
+pub const READS: usize = 20;
 pub const OUTPUTS: usize = 12;
 pub const CONSTRAINTS: usize = 64;
 pub const NAME: usize = 8;
@@ -243,8 +243,8 @@ mod tests {
     #[test]
     fn places() {
         assert_eq!(read_at(0), 8);
-        assert_eq!(output_at(0), 168);
-        assert_eq!(constraint_at(0), 264);
+        assert_eq!(output_at(0), 208);
+        assert_eq!(constraint_at(0), 304);
         assert_eq!(constraint_at(CONSTRAINTS), SET_BYTES);
     }
 
@@ -253,12 +253,12 @@ mod tests {
         let raw = p();
         assert_eq!(raw[..8], *b"\0\x01\0\x02\0\x02\0\0");
         assert_eq!(raw[8..18], *b"\0\x00007\0\0\0\0\0");
-        assert_eq!(raw[168..184], *b"07\0\0\0\0\0\x007\0\0\0\0\0\0\0");
+        assert_eq!(raw[208..224], *b"07\0\0\0\0\0\x007\0\0\0\0\0\0\0");
         let first = [0, 0, 0, 1, 0, 0, 0, 0, 0, 2, 0, 0];
-        assert_eq!(raw[264..276], first);
+        assert_eq!(raw[304..316], first);
         let second = [0, 0, 0, 0, 0, 0, 0, 0, 0, 1, 0, 2, 0, 1];
-        assert_eq!(raw[288..302], second);
-        assert!(raw[302..].iter().all(|&byte| byte == 0));
+        assert_eq!(raw[328..342], second);
+        assert!(raw[342..].iter().all(|&byte| byte == 0));
         assert_eq!(well_formed(&raw), load(&P).ok());
     }
 
@@ -319,7 +319,13 @@ mod tests {
     #[test]
     fn too_many_points_together() {
         let mut chance = Chance::new(1);
-        for (r, n, good) in [(12, 12, true), (13, 12, false), (16, 9, false)] {
+        for (r, n, good) in [
+            (12, 12, true),
+            (13, 12, false),
+            (16, 9, false),
+            (20, 4, true),
+            (20, 5, false),
+        ] {
             let set = set(&mut chance, Recipe::Planted, r, n, 4);
             assert_eq!(well_formed(&laid_out(&set)).is_some(), good);
         }
@@ -340,6 +346,8 @@ mod tests {
         // A past point beyond the count.
         ill(read_at(1), &[1, 0]);
         ill(read_at(15), &[2, 0]);
+        ill(read_at(16), &[1, 0]);
+        ill(read_at(19), &[2, 0]);
     }
 
     #[test]
@@ -366,6 +374,7 @@ mod tests {
         ill(at + PLAIN_READS, &[0, 0, 0, 3]);
         ill(at + PLAIN_READS, &[0x80, 0, 0, 1]);
         ill(at + NEGATED_READS, &[0, 1, 0, 0]);
+        ill(at + NEGATED_READS, &[0, 16, 0, 0]);
         ill(at + PLAIN_OUTPUTS, &[0, 6]);
         ill(at + PLAIN_OUTPUTS, &[0x80, 2]);
         ill(at + NEGATED_OUTPUTS, &[0x10, 0]);

@@ -232,8 +232,9 @@ mod tests {
         // end.
         assert_eq!(length(12, 12), 33_828);
         assert_eq!(length(16, 8), 31_396 + 8 * 14);
+        assert_eq!(length(20, 4), 29_132 + 4 * 14);
         for n in 1..=12 {
-            assert!(length((24 - n).min(16), n) <= 33_828);
+            assert!(length((24 - n).min(20), n) <= 33_828);
         }
     }
 

@@ -2,8 +2,8 @@
 //! for an endless walk. A word without a vector is told with its clash, if it
 //! has one.
 
-use crate::filter::{holds, is_safe, read_literals_true, walk, Holds, Walk};
-use crate::set::{bits, Constraint, Set};
+use crate::filter::{holds, is_safe, walk, Holds, Walk};
+use crate::set::{bits, Constraint, Point, Set};
 use std::collections::HashMap;
 
 #[derive(Clone, Copy, Debug, PartialEq, Eq)]
@@ -32,13 +32,11 @@ impl Verdict {
 /// The verdict. A read word counts only through the constraints whose read
 /// literals it makes true; words that agree in these share one answer.
 pub fn judge(set: &Set) -> Verdict {
-    let mut vectors = Shared::new(set, has_safe_vector);
-    let mut walks = Shared::new(set, first_endless);
-    if let Some(word) = words(set).find(|&word| !vectors.at(word)) {
+    let lacking = |set: &Set, reads: &[bool]| (!has_safe_vector(set, reads)).then_some(());
+    if let Some((word, ())) = first_word(set, lacking) {
         return without_vector(set, word);
     }
-    let endless = words(set).find_map(|word| Some((word, walks.at(word)?)));
-    match endless {
+    match first_word(set, first_endless) {
         Some((word, request)) => Verdict::NoEnd(word, request),
         None => Verdict::Accepted,
     }
@@ -67,17 +65,16 @@ pub fn judge_plainly(set: &Set) -> Verdict {
 /// answer comes from here: it tells which sets have another one now, and the
 /// corpus draws its older sets by it, so that they stay the same.
 pub fn judge_in_the_old_order(set: &Set) -> Verdict {
-    let mut vectors = Shared::new(set, has_safe_vector);
-    let mut walks = Shared::new(set, first_endless);
-    for word in words(set) {
-        if !vectors.at(word) {
-            return Verdict::NoVector(word);
-        }
-        if let Some(request) = walks.at(word) {
-            return Verdict::NoEnd(word, request);
-        }
+    // A failing word has no request where no vector is safe.
+    let failing = |set: &Set, reads: &[bool]| match has_safe_vector(set, reads) {
+        false => Some(None),
+        true => first_endless(set, reads).map(Some),
+    };
+    match first_word(set, failing) {
+        Some((word, None)) => Verdict::NoVector(word),
+        Some((word, Some(request))) => Verdict::NoEnd(word, request),
+        None => Verdict::Accepted,
     }
-    Verdict::Accepted
 }
 
 /// What is told of a read word without a safe vector: the clash, if there is
@@ -100,11 +97,6 @@ pub fn scratch_bytes(n: usize) -> usize {
     }
 }
 
-/// All read words in rising order.
-fn words(set: &Set) -> std::ops::Range<u32> {
-    0..1 << set.reads.len()
-}
-
 /// True if any of the 2^n vectors is safe at a read word.
 pub fn has_safe_vector(set: &Set, reads: &[bool]) -> bool {
     let n = set.outputs.len();
@@ -119,46 +111,87 @@ pub fn first_endless(set: &Set, reads: &[bool]) -> Option<u16> {
     (0..1u16 << n).find(endless)
 }
 
-/// Answers about the read words of a set, one for all words that make the same
-/// constraints' read literals true.
-struct Shared<'a, A> {
-    set: &'a Set,
-    ask: fn(&Set, &[bool]) -> A,
-    answers: HashMap<Vec<usize>, A>,
+/// The lowest read word at which a question about a set has an answer, and that
+/// answer. The question must hang on the active constraints alone, those whose
+/// read literals are all true.
+fn first_word<A: Copy>(set: &Set, ask: impl Fn(&Set, &[bool]) -> Option<A>) -> Option<(u32, A)> {
+    let mut search = Search {
+        set,
+        ask,
+        known: HashMap::new(),
+    };
+    let all = (0..set.constraints.len()).collect();
+    search.lowest(set.reads.len(), all)
 }
 
-impl<'a, A: Copy> Shared<'a, A> {
-    fn new(set: &'a Set, ask: fn(&Set, &[bool]) -> A) -> Shared<'a, A> {
-        let answers = HashMap::new();
-        Shared { set, ask, answers }
-    }
+/// The read words are gone through as a tree, the highest read point first and
+/// off before on, so in rising order. Of a branch it is kept what constraints
+/// are still possible, by their places, and branches of the same height that
+/// agree in these share one answer.
+struct Search<'a, A, F> {
+    set: &'a Set,
+    ask: F,
+    known: HashMap<Branch, Option<(u32, A)>>,
+}
 
-    fn at(&mut self, word: u32) -> A {
-        let reads = bits(word, self.set.reads.len());
-        let active = active(self.set, &reads);
-        if let Some(answer) = self.answers.get(&active) {
+/// How many read points of a branch are open, and the places of the constraints
+/// that are still possible.
+type Branch = (usize, Vec<usize>);
+
+impl<A: Copy, F: Fn(&Set, &[bool]) -> Option<A>> Search<'_, A, F> {
+    /// The lowest word with an answer, of those in which the read points below
+    /// a number are open and make no others than these constraints active.
+    fn lowest(&mut self, open: usize, possible: Vec<usize>) -> Option<(u32, A)> {
+        let key = (open, possible);
+        if let Some(answer) = self.known.get(&key) {
             return *answer;
         }
-        let answer = (self.ask)(&only(self.set, &active), &reads);
-        self.answers.insert(active, answer);
+        let answer = match open.checked_sub(1) {
+            None => {
+                let answer = (self.ask)(&active(self.set, &key.1), &[]);
+                answer.map(|answer| (0, answer))
+            }
+            Some(point) => self.below(point, &key.1),
+        };
+        self.known.insert(key, answer);
         answer
+    }
+
+    /// The same with the highest open read point off, and then on.
+    fn below(&mut self, point: usize, possible: &[usize]) -> Option<(u32, A)> {
+        let left = |on: bool| -> Vec<usize> {
+            let stays = |place: &&usize| !forbids(&self.set.constraints[**place], point, on);
+            possible.iter().filter(stays).copied().collect()
+        };
+        let [off, on] = [false, true].map(left);
+        self.lowest(point, off).or_else(|| {
+            let (word, answer) = self.lowest(point, on)?;
+            Some((word + (1 << point), answer))
+        })
     }
 }
 
-/// The places of the constraints whose read literals are all true.
-fn active(set: &Set, reads: &[bool]) -> Vec<usize> {
-    let is_active = |place: &usize| read_literals_true(&set.constraints[*place], reads);
-    (0..set.constraints.len()).filter(is_active).collect()
+/// True if a read literal of a constraint is false where a read point is so.
+fn forbids(constraint: &Constraint, point: usize, on: bool) -> bool {
+    let mut literals = constraint.literals.iter();
+    literals.any(|literal| literal.point == Point::Read(point) && literal.negated == on)
 }
 
-/// The set with these constraints alone.
-fn only(set: &Set, places: &[usize]) -> Set {
-    let constraints: Vec<Constraint> = places
-        .iter()
-        .map(|&place| set.constraints[place].clone())
-        .collect();
+/// The set with these constraints alone, of which only the output literals are
+/// left, since their read literals are all true; it has no read points, and its
+/// outputs have no names.
+fn active(set: &Set, places: &[usize]) -> Set {
+    let outputs = |&place: &usize| {
+        let literals = set.constraints[place].literals.iter();
+        let literals = literals.filter(|literal| literal.is_output());
+        Constraint {
+            literals: literals.copied().collect(),
+        }
+    };
     Set {
-        constraints,
-        ..set.clone()
+        reads: Vec::new(),
+        outputs: vec![Vec::new(); set.outputs.len()],
+        rest: Vec::new(),
+        constraints: places.iter().map(outputs).collect(),
     }
 }

@@ -377,10 +377,10 @@ fn program_lines() {
 }
 
 #[test]
-fn program_reads_4096_bytes() {
-    // A field that ends after byte 4,096 runs past the end for the program.
-    let mut file = vec![1, 0, 2, 0, 1, 3, 0x10, 0x00];
-    file.extend(vec![b'x'; 4096]);
+fn program_reads_8192_bytes() {
+    // A field that ends after byte 8,192 runs past the end for the program.
+    let mut file = vec![1, 0, 2, 0, 1, 3, 0x20, 0x00];
+    file.extend(vec![b'x'; 8192]);
     assert_eq!(refusal(&file), Some((4, 5)));
     assert_eq!(line(&file), "LOAD 1 5\n");
 }

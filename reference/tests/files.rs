@@ -1,5 +1,5 @@
-//! Loading, with each refusal but 54 and the orders that docs/DECISIONS.md
-//! decides, and writing and finding. `rests.rs` has 54.
+//! Loading, with each refusal but 54 and 59 and the orders that docs/DECISIONS.md
+//! decides, and writing and finding. `rests.rs` has 54, `wide.rs` 59.
 
 use reference::chance::Chance;
 use reference::damage::P;
@@ -118,9 +118,9 @@ fn too_many_literals_are_9_or_10() {
 
 #[test]
 fn refusal_5() {
-    refused(&joined(&[(1, &[17, 1])]), 5, 0);
+    refused(&joined(&[(1, &[21, 1])]), 5, 0);
     refused(&joined(&[(1, &[255, 255])]), 5, 0);
-    for r in 0..=16 {
+    for r in 0..=20 {
         for n in 1..=12 {
             let file = joined(&[(1, &[r, n])]);
             if r + n <= 24 {

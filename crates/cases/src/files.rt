@@ -16,7 +16,10 @@ use writer::Written;
 ghost use Prim.Native.Nat.{_≤_};
 
 // What the verdict program reads of a file.
-const MOST_JUDGED: usize = 4096;
+const MOST_JUDGED: usize = 8192;
+
+// Room for any file that is written.
+const MOST_FILE: usize = 8192;
 
 fn least(a: usize, b: usize) -> usize
     ensures { λ r. ⌜ r ≤ a ⌝ }
@@ -69,7 +72,7 @@ fn print_same(buf: &[u8], length: usize, file: &[u8]) {
 }
 
 fn print_rewritten(set: Set, file: &[u8]) {
-    let mut buf = io::buffer();
+    let mut buf = [0u8; MOST_FILE];
     io::write_all(1, b"WRITE");
     let written = writer::write(set, &mut buf);
     match written {

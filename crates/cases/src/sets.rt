@@ -22,7 +22,7 @@ use scan::Set;
 use writer::Written;
 
 // The bytes of a set, of a read point and of a constraint, and where the read points, the outputs and the constraints begin.
-pub const SET_BYTES: usize = 1800;
+pub const SET_BYTES: usize = 1840;
 
 const READ_BYTES: usize = 10;
 
@@ -30,9 +30,9 @@ const CONSTRAINT_BYTES: usize = 24;
 
 const READS_AT: usize = 8;
 
-const OUTPUTS_AT: usize = 168;
+const OUTPUTS_AT: usize = 208;
 
-const CONSTRAINTS_AT: usize = 264;
+const CONSTRAINTS_AT: usize = 304;
 
 fn name_of(bytes: &[u8]) -> [u8; NAME_PLACES] {
     [
@@ -154,13 +154,14 @@ fn set_of(bytes: &[u8]) -> Set {
     }
 }
 
-// Writing's answer and, where there is a file, the sum of the whole buffer.
+// Writing's answer and, where the set has a file, the sum of the whole buffer, in which a file of more bytes leaves its zeros.
 fn print_file_of(set: Set) {
     let mut buf = io::buffer();
     let written = writer::write(set, &mut buf);
     print_written(b'/', written);
-    if let Written::Wrote(_) = written {
-        print_sum(b':', &buf);
+    match written {
+        Written::BadSet => {}
+        _ => print_sum(b':', &buf),
     }
 }
 

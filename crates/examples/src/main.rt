@@ -3,6 +3,9 @@
 use libc::STDOUT_FILENO;
 ghost use Rattle.io.specs.Counts.{Counts};
 
+// What the programs read of a set file.
+const MOST_FILE: usize = 8192;
+
 // The most pairs.
 const MOST_PAIRS: usize = 64;
 
@@ -70,7 +73,7 @@ fn say_shown(file: &[u8], text: &[u8]) {
 }
 
 fn say_pair(set: &[u8], text: &[u8]) {
-    let mut file = io::buffer();
+    let mut file = [0u8; MOST_FILE];
     let mut own = io::large_buffer();
     let n = read_file(set, &mut file);
     let m = read_file(text, &mut own);

@@ -12,6 +12,7 @@ use lib.Seq.{getD-drop}
 use borrow.Author.Tests.{not-true, lt-ltb, le-ltb, ltb-false, leb-true, leb-false, eqb-true, eqb-false, ne-eqb}
 use Rattle.words.proofs.BoolLaws.{clash, by-test, and-true, or-true, or-false}
 use Rattle.scan.specs.Set.{mostConstraints, namePlaces}
+use Rattle.header.specs.Tag.{isConstraint, isWide, tagBy, literalSize}
 use Rattle.header.specs.declared.header.RawField.{RawField}
 use Rattle.header.specs.declared.header.RawField.the-variants.{Cut, Field as Whole}
 use Rattle.header.specs.Header.{bodyLength, isCut, rawOf, tagBound, shortest, longest, step, fitsTable, isDue, need, headerBy, headerOf, frontOf}
@@ -30,7 +31,8 @@ step-positive (suc (suc (suc zero))) h = lit< tt
 step-positive (suc (suc (suc (suc zero)))) h = lit< tt
 step-positive (suc (suc (suc (suc (suc zero))))) h = lit< tt
 step-positive (suc (suc (suc (suc (suc (suc zero)))))) h = lit< tt
-step-positive (suc (suc (suc (suc (suc (suc (suc tag))))))) h = absurd (omega arith)
+step-positive (suc (suc (suc (suc (suc (suc (suc zero))))))) h = lit< tt
+step-positive (suc (suc (suc (suc (suc (suc (suc (suc tag)))))))) h = absurd (omega arith)
 
 -- what a length in the table is
 pub table-bounds : (tag len : ℕ) → fitsTable tag len ≡ true → (shortest tag ≤ len) × (len ≤ longest tag) × (len % step tag ≡ 0)
@@ -100,11 +102,11 @@ module _ (s : List ℕ) (due m : ℕ) where
     not-due d = rw (e, d)
 
     module _ (d : isDue due tag ≡ true) where
-      pub too-many : (eqb tag 4 && leb mostConstraints m) ≡ true → headerOf s due m ≡ Refused 3
+      pub too-many : (isConstraint tag && leb mostConstraints m) ≡ true → headerOf s due m ≡ Refused 3
       unfolding headerOf
       too-many g = rw (e, d, g)
 
-      module _ (g : (eqb tag 4 && leb mostConstraints m) ≡ false) where
+      module _ (g : (isConstraint tag && leb mostConstraints m) ≡ false) where
         pub not-in-table : fitsTable tag len ≡ false → headerOf s due m ≡ Refused 4
         unfolding headerOf
         not-in-table t = rw (e, d, g, t)
@@ -120,7 +122,7 @@ pub record Found (s : List ℕ) (due m tag len : ℕ) : Type 0 where
   pub length-is : bodyLength s ≡ len
   pub within : 3 + len ≤ length s
   pub awaited : isDue due tag ≡ true
-  pub few : (eqb tag 4 && leb mostConstraints m) ≡ false
+  pub few : (isConstraint tag && leb mostConstraints m) ≡ false
   pub table : fitsTable tag len ≡ true
 
 passed : (b : Bool) (number : ℕ) (rest : Header) (tag len : ℕ) → need b number rest ≡ Field tag len → (b ≡ true) × (rest ≡ Field tag len)
@@ -135,7 +137,7 @@ found s due m tag len e = go (rawOf s) refl e
     go Cut q e = let z : _≡_ {A = ℕ} 0 1 = cc in absurd (omega arith)
     go (Whole k j) q e =
         let a = passed (isDue due k) 2 _ tag len e in
-        let b = passed (not (eqb k 4 && leb mostConstraints m)) 3 _ tag len (a .1) in
+        let b = passed (not (isConstraint k && leb mostConstraints m)) 3 _ tag len (a .1) in
         let c = passed (fitsTable k j) 4 _ tag len (b .1) in
         let t : k ≡ tag = let h = c .1 in cc in
         let l : j ≡ len = let h = c .1 in cc in
@@ -145,7 +147,7 @@ found s due m tag len e = go (rawOf s) refl e
           length-is = told .length-is;
           within = told .within;
           awaited = subst (λ (x : ℕ). isDue due x ≡ true) t (a .0);
-          few = subst (λ (x : ℕ). (eqb x 4 && leb mostConstraints m) ≡ false) t (not-true (eqb k 4 && leb mostConstraints m) (b .0));
+          few = subst (λ (x : ℕ). (isConstraint x && leb mostConstraints m) ≡ false) t (not-true (isConstraint k && leb mostConstraints m) (b .0));
           table = ap₂ (λ (x y : ℕ). fitsTable x y) (sym t) (sym l) ∙ c .0;
         }
 
@@ -155,18 +157,28 @@ field-within s at due m tag len e = omega (arith, length-drop at s, found (drop 
 
 -- ---- the bounds of a body, by the tag that was due
 
--- the tag found is the one due; where constraints are due, it may be the end's
-pub due-is : (due tag : ℕ) → (eqb due 4 && eqb tag 5) ≡ false → isDue due tag ≡ true → tag ≡ due
+-- the tag found is the one due, where no constraints are
+pub due-is : (due tag : ℕ) → (due ≡ 4 → ⊥) → isDue due tag ≡ true → tag ≡ due
 due-is due tag n e =
-    by-test (eqb tag due) (λ t. eqb-true tag due t) (λ t. clash (or-true (eqb tag due) (eqb due 4 && eqb tag 5) e t) n)
+    by-test (eqb tag due) (λ t. eqb-true tag due t)
+    (λ t. clash (or-true (eqb tag due) (eqb due 4 && (eqb tag 5 || eqb tag 7)) e t) (ap (λ (b : Bool). b && (eqb tag 5 || eqb tag 7)) (ne-eqb due 4 n)))
 
-not-end : (due tag : ℕ) → (due ≡ 4 → ⊥) → (eqb due 4 && eqb tag 5) ≡ false
-not-end due tag n = ap (λ (b : Bool). b && eqb tag 5) (ne-eqb due 4 n)
+-- where constraints are due, it is a constraint's or the end's
+pub constraint-due : (tag : ℕ) → (tag ≡ 5 → ⊥) → isDue 4 tag ≡ true → tag ≡ tagBy (isWide tag)
+constraint-due tag n e = by-test (eqb tag 7) high low
+  where
+    high : eqb tag 7 ≡ true → tag ≡ tagBy (eqb tag 7)
+    high t = eqb-true tag 7 t ∙ ap tagBy (sym t)
+
+    low : eqb tag 7 ≡ false → tag ≡ tagBy (eqb tag 7)
+    low t =
+        by-test (eqb tag 4) (λ w. eqb-true tag 4 w ∙ ap tagBy (sym t))
+        (λ w. clash (or-true (eqb tag 5) (eqb tag 7) (or-true (eqb tag 4) (eqb tag 5 || eqb tag 7) e w) (ne-eqb tag 5 n)) t)
 
 pub body-bounds : (s : List ℕ) (due m tag len : ℕ) → (due ≡ 4 → ⊥) → headerOf s due m ≡ Field tag len → (shortest due ≤ len) × (len ≤ longest due)
 body-bounds s due m tag len n e =
     let f = found s due m tag len e in
-    let b = table-bounds due len (subst (λ (k : ℕ). fitsTable k len ≡ true) (due-is due tag (not-end due tag n) (f .awaited)) (f .table)) in
+    let b = table-bounds due len (subst (λ (k : ℕ). fitsTable k len ≡ true) (due-is due tag n (f .awaited)) (f .table)) in
     (b .0, b .1)
 
 pub counts-length : (s : List ℕ) (tag len : ℕ) → headerOf s 1 0 ≡ Field tag len → len ≡ 2
@@ -181,13 +193,22 @@ output-length s tag len e = body-bounds s 3 0 tag len (eqb-false 3 4 refl) e
 pub rest-length : (s : List ℕ) (tag len : ℕ) → headerOf s 6 0 ≡ Field tag len → len ≡ 2
 rest-length s tag len e = let b = body-bounds s 6 0 tag len (eqb-false 6 4 refl) e in omega arith
 
--- where a constraint or the end is due, and the end was not found
-pub constraint-length : (s : List ℕ) (m tag len : ℕ) → (tag ≡ 5 → ⊥) → headerOf s 4 m ≡ Field tag len → (len ≤ 48) × (len % 2 ≡ 0) × (m < mostConstraints)
-constraint-length s m tag len n e =
-    let f = found s 4 m tag len e in
-    let t : tag ≡ 4 = by-test (eqb tag 4) (eqb-true tag 4) (λ w. absurd (n (eqb-true tag 5 (or-true (eqb tag 4) (eqb tag 5) (f .awaited) w)))) in
-    let b = table-bounds 4 len (subst (λ (k : ℕ). fitsTable k len ≡ true) t (f .table)) in
-    (b .1, b .2, leb-false mostConstraints m (subst (λ (k : ℕ). (eqb k 4 && leb mostConstraints m) ≡ false) t (f .few)))
+-- where a constraint or the end is due, and the end was not found: the tag is a constraint's, the body has whole literals, and there is room
+pub constraint-length : (s : List ℕ) (m tag len : ℕ) → (tag ≡ 5 → ⊥) → headerOf s 4 m ≡ Field tag len → (len % literalSize (isWide tag) ≡ 0) × (m < mostConstraints)
+constraint-length s m tag len n e = go (isWide tag) refl (constraint-due tag n (f .awaited))
+  where
+    f : Found s 4 m tag len
+    f = found s 4 m tag len e
+
+    by : (t : ℕ) → tag ≡ t → isConstraint t ≡ true → (len % step t ≡ 0) × (m < mostConstraints)
+    by t same is = (
+      table-bounds t len (subst (λ (k : ℕ). fitsTable k len ≡ true) same (f .table)) .2,
+      leb-false mostConstraints m (subst (λ (b : Bool). (b && leb mostConstraints m) ≡ false) is (subst (λ (k : ℕ). (isConstraint k && leb mostConstraints m) ≡ false) same (f .few))),
+    )
+
+    go : (wide : Bool) → isWide tag ≡ wide → tag ≡ tagBy (isWide tag) → (len % literalSize wide ≡ 0) × (m < mostConstraints)
+    go true w t = by 7 (t ∙ ap tagBy w) refl
+    go false w t = by 4 (t ∙ ap tagBy w) refl
 
 -- ---- the field at a place of a file
 

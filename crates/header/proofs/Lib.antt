@@ -1,3 +1,4 @@
+pub mod TagLaws
 pub mod HeaderLaws
 pub mod TestLaws
 pub mod ReaderWalks

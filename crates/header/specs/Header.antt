@@ -7,6 +7,7 @@ use mathlib.Core.List.{List, [], _∷_}
 use lib.Dec.{ltb, leb, eqb}
 use lib.ListN.{length, getD, take, drop}
 use Rattle.scan.specs.Set.{mostConstraints}
+use Rattle.header.specs.Tag.{isConstraint}
 use Rattle.header.specs.declared.header.RawField.{RawField}
 use Rattle.header.specs.declared.header.RawField.the-variants.{Cut, Field as Whole}
 use Rattle.header.specs.declared.header.Header.{Header}
@@ -35,19 +36,19 @@ bodyOf s len = take len (drop 3 s)
 
 -- tags are below this
 abbrev pub tagBound : ℕ
-tagBound = 7
+tagBound = 8
 
 -- the shortest body
 abbrev pub shortest : ℕ → ℕ
-shortest tag = getD (0 ∷ 2 ∷ 3 ∷ 1 ∷ 2 ∷ 0 ∷ 2 ∷ []) tag 0
+shortest tag = getD (0 ∷ 2 ∷ 3 ∷ 1 ∷ 2 ∷ 0 ∷ 2 ∷ 3 ∷ []) tag 0
 
 -- the longest body
 abbrev pub longest : ℕ → ℕ
-longest tag = getD (0 ∷ 2 ∷ 10 ∷ 8 ∷ 48 ∷ 0 ∷ 2 ∷ []) tag 0
+longest tag = getD (0 ∷ 2 ∷ 10 ∷ 8 ∷ 48 ∷ 0 ∷ 2 ∷ 72 ∷ []) tag 0
 
 -- what a body's length is a multiple of
 abbrev pub step : ℕ → ℕ
-step tag = getD (1 ∷ 1 ∷ 1 ∷ 1 ∷ 2 ∷ 1 ∷ 1 ∷ []) tag 0
+step tag = getD (1 ∷ 1 ∷ 1 ∷ 1 ∷ 2 ∷ 1 ∷ 1 ∷ 3 ∷ []) tag 0
 
 -- the length is in the table
 abbrev pub fitsTable : ℕ → ℕ → Bool
@@ -55,9 +56,9 @@ fitsTable tag len = ltb tag tagBound && (leb (shortest tag) len && (leb len (lon
 
 -- ---- the tests of a set file's field
 
--- the tag is due; where constraints are due, the end is due too
+-- the tag is due; where constraints are due, both their tags are, and the end is due too
 abbrev pub isDue : ℕ → ℕ → Bool
-isDue due tag = eqb tag due || (eqb due 4 && eqb tag 5)
+isDue due tag = eqb tag due || (eqb due 4 && (eqb tag 5 || eqb tag 7))
 
 -- the rest if the test passes, else the refusal
 abbrev pub need : Bool → ℕ → Header → Header
@@ -69,7 +70,7 @@ abbrev pub headerBy : ℕ → ℕ → RawField → Header
 headerBy due m Cut = Refused 1
 headerBy due m (Whole tag len) =
     need (isDue due tag) 2
-    (need (not (eqb tag 4 && leb mostConstraints m)) 3
+    (need (not (isConstraint tag && leb mostConstraints m)) 3
     (need (fitsTable tag len) 4
     (Field tag len)))
 

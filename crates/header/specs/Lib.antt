@@ -1,3 +1,4 @@
+pub mod Tag
 pub mod Header
 pub mod Bytes
 pub mod Test

@@ -5,20 +5,23 @@ use super::numbers::PAST_END;
 use super::numbers::TAG_CONSTRAINT;
 use super::numbers::TAG_END;
 use super::numbers::TAG_NOT_DUE;
+use super::numbers::TAG_WIDE;
+use super::tag::is_constraint;
+use choice::either;
 use scan::MOST_CONSTRAINTS;
 ghost use mathlib.Core.Path.{_≡_};
 ghost use lib.ListN.{drop};
 ghost use Rattle.header.specs.Header.{rawOf, fitsTable, isDue, headerOf};
 
 // Tags are below this.
-const TAG_BOUND: usize = 7;
+const TAG_BOUND: usize = 8;
 
 // By tag: the shortest body, the longest body, and what a body's length is a multiple of.
-const SHORTEST: [u8; TAG_BOUND] = [0, 2, 3, 1, 2, 0, 2];
+const SHORTEST: [u8; TAG_BOUND] = [0, 2, 3, 1, 2, 0, 2, 3];
 
-const LONGEST: [u8; TAG_BOUND] = [0, 2, 10, 8, 48, 0, 2];
+const LONGEST: [u8; TAG_BOUND] = [0, 2, 10, 8, 48, 0, 2, 72];
 
-const STEP: [u8; TAG_BOUND] = [1, 1, 1, 1, 2, 1, 1];
+const STEP: [u8; TAG_BOUND] = [1, 1, 1, 1, 2, 1, 1, 3];
 
 // A field whatever its tag: header or body runs past the end; or the tag and the length of the body.
 pub enum RawField {
@@ -78,7 +81,7 @@ fn fits_table(tag: u8, len: usize) -> bool
     len % step == 0
 }
 
-// Where constraints are due, the end is due too.
+// Where constraints are due, both their tags are, and the end is due too.
 fn is_due(due: u8, tag: u8) -> bool
     ensures { λ r. ⌜ r ≡ isDue due tag ⌝ }
 {
@@ -86,7 +89,7 @@ fn is_due(due: u8, tag: u8) -> bool
         return true;
     }
     if due == TAG_CONSTRAINT {
-        return tag == TAG_END;
+        return either(tag == TAG_END, tag == TAG_WIDE);
     }
     false
 }
@@ -102,7 +105,7 @@ pub fn header_at(s: &[u8], at: usize, due: u8, m: usize) -> Header
             if !is_due(due, tag) {
                 return Header::Refused(TAG_NOT_DUE);
             }
-            if tag == TAG_CONSTRAINT {
+            if is_constraint(tag) {
                 if MOST_CONSTRAINTS <= m {
                     return Header::Refused(MANY_CONSTRAINTS);
                 }

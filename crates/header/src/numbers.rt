@@ -32,6 +32,8 @@ pub const BYTES_FOLLOW: u8 = 12;
 
 pub const BAD_REST: u8 = 54;
 
+pub const NO_HIGH_READ: u8 = 59;
+
 pub const TAG_COUNTS: u8 = 0x01;
 
 pub const TAG_READ: u8 = 0x02;
@@ -43,3 +45,5 @@ pub const TAG_CONSTRAINT: u8 = 0x04;
 pub const TAG_END: u8 = 0x05;
 
 pub const TAG_REST: u8 = 0x06;
+
+pub const TAG_WIDE: u8 = 0x07;

@@ -1,57 +1,91 @@
 -- Laws of the code's way with literals: what is said at a place of a body is what the body says there, and a literal more in the word is a literal more
 -- in its constraint.
 -- Assumes nothing.
-use mathlib.Core.Path.{_≡_, refl, sym, ap, ap₂, _∙_}
+use mathlib.Core.Path.{_≡_, sym, ap, ap₂, _∙_}
 use mathlib.Core.Bool.{Bool, true, false, cond}
 use mathlib.Core.List.{List, [], _∷_}
 use Prim.Native.Nat.{ℕ, suc, _+_, _-_, _/_, _%_, _^_, _≤_, _<_}
 use native.Mathlib.Nat.{mod-eq-of-lt, div-eq-of-lt, zero-mod, mul-mod-left}
 use native.Mathlib.Numerals.{add-one}
 use native.Mathlib.Omega.{arith}
-use lib.Dec.{ltb}
-use lib.ListN.{length, getD, drop, set as store, drop-of-length-le}
+use lib.Dec.{leb}
+use lib.ListN.{length, drop, set as store, drop-of-length-le}
 use lib.Bits.{bitOr, or-zero-r, or-shr, or-mod}
 use lib.Pow.{pow-lt, pow-add, shl-shr}
 use lib.Seq.{drop-cons}
-use borrow.Author.Tests.{ltb-true, ltb-false}
+use borrow.Author.Tests.{leb-true, leb-false}
 use Rattle.words.proofs.BoolLaws.{by-test}
 use Rattle.scan.specs.declared.set.Constraint.{Constraint}
 use Rattle.scan.specs.Set.{mostReads, mostOutputs}
 use Rattle.literal.specs.declared.literal.Said.{Said}
 use Rattle.literal.specs.declared.literal.Literals.{Literals}
-use Rattle.literal.specs.Literal.{narrow, narrows, torn, place, isLiteral, withBit, withLiteral, lastLiteral, literalsFrom}
+use Rattle.header.specs.Tag.{literalSize}
+use Rattle.literal.specs.Literal.{narrows, wides, saidBy, place, isLiteral, withBit, withLiteral, lastLiteral, literalsFrom}
 use Rattle.literal.specs.way.Literal.{saidAt, signBits, bitAt, inWord, part, ofWord}
-use Rattle.literal.proofs.LiteralLaws.{room, output-below, one-more}
+use Rattle.literal.proofs.LiteralLaws.{room, one-more}
 
 -- ---- what a body says at a place
 
 -- behind the end it says nothing
-narrows-end : (body : List ℕ) (i : ℕ) → length body ≤ i → narrows (drop i body) ≡ []
-unfolding narrows
-narrows-end body i h = rw (drop-of-length-le body h)
+said-end : (isWide : Bool) (body : List ℕ) (i : ℕ) → length body ≤ i → saidBy isWide (drop i body) ≡ []
+unfolding narrows wides
+said-end true body i h = rw (drop-of-length-le body h)
+said-end false body i h = rw (drop-of-length-le body h)
 
-narrows-next : (body : List ℕ) (i : ℕ) → i < length body → narrows (drop i body) ≡ saidAt body i ∷ narrows (drop (i + 2) body)
+-- before the end it says a literal, and then what stands behind that
+abbrev Next : Bool → List ℕ → ℕ → Type 0
+Next isWide body i = saidBy isWide (drop i body) ≡ saidAt isWide body i ∷ saidBy isWide (drop (i + literalSize isWide) body)
+
+narrow-next : (body : List ℕ) (i : ℕ) → i < length body → Next false body i
 unfolding narrows
-narrows-next body i h = by-test (ltb (i + 1) (length body)) more last
+narrow-next body i h = by-test (leb (i + 2) (length body)) more last
   where
-    more : ltb (i + 1) (length body) ≡ true → narrows (drop i body) ≡ saidAt body i ∷ narrows (drop (i + 2) body)
+    more : leb (i + 2) (length body) ≡ true → Next false body i
     more t =
+        let far = leb-true (i + 2) (length body) t in
         let e : suc (i + 1) ≡ i + 2 = omega arith in
-        rw (t, drop-cons body i 0 h, ← add-one i, drop-cons body (i + 1) 0 (ltb-true _ _ t), e)
+        rw (t, drop-cons body i 0 h, ← add-one i, drop-cons body (i + 1) 0 (omega arith), e)
 
-    last : ltb (i + 1) (length body) ≡ false → narrows (drop i body) ≡ saidAt body i ∷ narrows (drop (i + 2) body)
+    last : leb (i + 2) (length body) ≡ false → Next false body i
     last t =
-        let past : length body ≤ suc i = let p = ltb-false (i + 1) (length body) t in omega arith in
+        let short = leb-false (i + 2) (length body) t in
+        let past : length body ≤ suc i = omega arith in
         let over : length body ≤ i + 2 = omega arith in
         rw (t, drop-cons body i 0 h, drop-of-length-le body past, drop-of-length-le body over)
 
--- two bytes say a number below 16, and so one below that of read places
-pub said-below : (body : List ℕ) (i : ℕ) → saidAt body i .number < mostReads
-said-below body i = go (ltb (i + 1) (length body))
+wide-next : (body : List ℕ) (i : ℕ) → i < length body → Next true body i
+unfolding wides
+wide-next body i h = by-test (leb (i + 3) (length body)) more (λ t. by-test (leb (i + 2) (length body)) (two t) (one t))
   where
-    go : (b : Bool) → cond b (narrow (getD body i 0) (getD body (i + 1) 0)) torn .number < mostReads
-    go true = omega arith
-    go false = omega arith
+    e1 : suc (i + 1) ≡ i + 2
+    e1 = omega arith
+
+    e2 : suc (i + 2) ≡ i + 3
+    e2 = omega arith
+
+    more : leb (i + 3) (length body) ≡ true → Next true body i
+    more t =
+        let far = leb-true (i + 3) (length body) t in
+        rw (t, drop-cons body i 0 h, ← add-one i, drop-cons body (i + 1) 0 (omega arith), e1, drop-cons body (i + 2) 0 (omega arith), e2)
+
+    two : leb (i + 3) (length body) ≡ false → leb (i + 2) (length body) ≡ true → Next true body i
+    two t u =
+        let short = leb-false (i + 3) (length body) t in
+        let far = leb-true (i + 2) (length body) u in
+        let past : length body ≤ i + 2 = omega arith in
+        let over : length body ≤ i + 3 = omega arith in
+        rw (t, drop-cons body i 0 h, ← add-one i, drop-cons body (i + 1) 0 (omega arith), e1, drop-of-length-le body past, drop-of-length-le body over)
+
+    one : leb (i + 3) (length body) ≡ false → leb (i + 2) (length body) ≡ false → Next true body i
+    one t u =
+        let short = leb-false (i + 2) (length body) u in
+        let past : length body ≤ suc i = omega arith in
+        let over : length body ≤ i + 3 = omega arith in
+        rw (t, drop-cons body i 0 h, drop-of-length-le body past, drop-of-length-le body over)
+
+said-next : (isWide : Bool) (body : List ℕ) (i : ℕ) → i < length body → Next isWide body i
+said-next true = wide-next
+said-next false = narrow-next
 
 -- ---- parts of a word
 
@@ -85,13 +119,13 @@ module _ (from long w k : ℕ) where
 
 -- ---- a literal more
 
--- a literal's point has room in a constraint
-pub literal-fits : (l : Said) (r n : ℕ) → isLiteral l r n ≡ true → n ≤ mostOutputs → l .number < mostReads → l .number < room (l .out)
-literal-fits l r n e h s = go (l .out) refl
+-- a literal's number and its place have room among the bits of one sign
+pub number-below : (l : Said) → l .number < room (l .out) → l .number < signBits
+number-below l h = go (l .out) h
   where
-    go : (o : Bool) → l .out ≡ o → l .number < room o
-    go true o = let b = output-below l r n e o in omega arith
-    go false o = s
+    go : (o : Bool) → l .number < room o → l .number < signBits
+    go true s = omega arith
+    go false s = omega arith
 
 pub place-below : (l : Said) → l .number < room (l .out) → place l < signBits
 place-below l h = go (l .out) h
@@ -159,22 +193,28 @@ literal-word w ranks l fits = go (l .out) (l .negated) fits
 -- ---- the loop over a body's literals
 
 -- where the loop has come to the end
-pub literals-end : (r n next : ℕ) (c : Constraint) (body : List ℕ) (i : ℕ) → length body ≤ i → literalsFrom r n next c (narrows (drop i body)) ≡ lastLiteral next c
+pub literals-end : (isWide : Bool) (r n next : ℕ) (c : Constraint) (body : List ℕ) (i : ℕ) → length body ≤ i
+    → literalsFrom isWide r n next c (saidBy isWide (drop i body)) ≡ lastLiteral isWide next c
 unfolding literalsFrom
-literals-end r n next c body i h = ap (literalsFrom r n next c) (narrows-end body i h)
+literals-end isWide r n next c body i h = ap (literalsFrom isWide r n next c) (said-end isWide body i h)
 
 -- where the loop stands at place i of the body: what the whole body gives is what its literals from there on give, the next of which is l
-module _ (r n next w : ℕ) (ranks body : List ℕ) (i : ℕ) (h : i < length body) (l : Said) (said : l ≡ saidAt body i)
-    (whole : Literals) (inv : whole ≡ literalsFrom r n next (ofWord w ranks) (narrows (drop i body))) where
-  pub here : whole ≡ literalsFrom r n next (ofWord w ranks) (l ∷ narrows (drop (i + 2) body))
-  here = inv ∙ ap (literalsFrom r n next (ofWord w ranks)) (narrows-next body i h ∙ ap (λ (x : Said). x ∷ narrows (drop (i + 2) body)) (sym said))
+module _ (isWide : Bool) (r n next w : ℕ) (ranks body : List ℕ) (i : ℕ) (h : i < length body) (l : Said) (said : l ≡ saidAt isWide body i)
+    (whole : Literals) (inv : whole ≡ literalsFrom isWide r n next (ofWord w ranks) (saidBy isWide (drop i body))) where
+  -- the literals behind it
+  abbrev others : List Said
+  others = saidBy isWide (drop (i + literalSize isWide) body)
+
+  pub here : whole ≡ literalsFrom isWide r n next (ofWord w ranks) (l ∷ others)
+  here = inv ∙ ap (literalsFrom isWide r n next (ofWord w ranks)) (said-next isWide body i h ∙ ap (λ (x : Said). x ∷ others) (sym said))
 
   -- its bit in the word, and the ranks with its own if it is an output's
   pub turned : isLiteral l r n ≡ true → next ≤ place l → l .number < room (l .out)
       → (at : ℕ) → at ≡ place l → (after : ℕ) → after ≡ inWord w (l .negated) at
       → (ranked : List ℕ) → cond (l .out) (store ranks (l .number) (l .rank)) ranks ≡ ranked
-      → whole ≡ literalsFrom r n (at + 1) (ofWord after ranked) (narrows (drop (i + 2) body))
-  turned ok rises fits at e after word ranked own =
-      here ∙ one-more r n next (ofWord w ranks) l (narrows (drop (i + 2) body)) ok rises
-      ∙ ap₂ (λ (x : ℕ) (c : Constraint). literalsFrom r n (x + 1) c (narrows (drop (i + 2) body))) (sym e)
+      → (size : ℕ) → size ≡ literalSize isWide → whole ≡ literalsFrom isWide r n (at + 1) (ofWord after ranked) (saidBy isWide (drop (i + size) body))
+  turned ok rises fits at e after word ranked own size z =
+      here ∙ one-more isWide r n next (ofWord w ranks) l others ok rises
+      ∙ ap₂ (λ (x : ℕ) (c : Constraint). literalsFrom isWide r n (x + 1) c others) (sym e)
       (sym (literal-word w ranks l fits) ∙ ap₂ ofWord (ap (inWord w (l .negated)) (sym e) ∙ sym word) own)
+      ∙ ap (λ (x : ℕ). literalsFrom isWide r n (at + 1) (ofWord after ranked) (saidBy isWide (drop (i + x) body))) (sym z)

@@ -1,18 +1,23 @@
 // Literals: what the bytes of a body say, and what is said taken into masks and ranks.
+use choice::both;
 use choice::least;
 use header::BAD_LITERAL;
+use header::NO_HIGH_READ;
 use header::NO_OUTPUT;
 use header::NOT_RISING;
 use header::Taken;
+use header::literal_size;
+use header::names_high;
 use scan::Constraint;
 use scan::MOST_OUTPUTS;
 use scan::MOST_READS;
 ghost use mathlib.Core.Path.{_≡_};
-ghost use Prim.Native.Nat.{_<_, min};
+ghost use Prim.Native.Nat.{_+_, _≤_, _<_, min};
 ghost use lib.ListN.{length};
-ghost use Rattle.scan.specs.Set.{mostOutputs};
-ghost use Rattle.literal.specs.Literal.{isOutput, isNegated, spare, fourBits, narrow, place, isLiteral, literalsOf, refusedLiterals};
-ghost use Rattle.literal.specs.way.Literal.{saidAt, signBits, inWord, ofWord};
+ghost use Rattle.scan.specs.Set.{mostReads, mostOutputs};
+ghost use Rattle.header.specs.Tag.{literalSize};
+ghost use Rattle.literal.specs.Literal.{isOutput, isNegated, spare, fourBits, narrow, sixBits, wide, place, isLiteral, lastLiteral, literalsOf, refusedLiterals};
+ghost use Rattle.literal.specs.way.Literal.{literalAt, saidAt, signBits, inWord, ofWord};
 
 // A literal as its bytes say it. clear: the bits that have to be zero are.
 pub struct Said {
@@ -77,13 +82,47 @@ fn narrow_said(first: u8, rank: u8) -> Said
     }
 }
 
-// The literal at place i of a body; none where one byte is left.
-fn said_at(body: &[u8], i: usize) -> Said
-    requires { ⌜ i < length (now body) ⌝ }
-    ensures { λ l. ⌜ l ≡ saidAt (now (body .entry)) i ⌝ }
+fn six_bits(first: u8) -> u8
+    ensures { λ r. ⌜ r ≡ sixBits first ⌝ }
 {
-    if i + 1 < body.len() {
-        return narrow_said(body[i], body[i + 1]);
+    first & 0x3F
+}
+
+// The literal of three bytes.
+fn wide_said(first: u8, number: u8, rank: u8) -> Said
+    ensures { λ l. ⌜ l ≡ wide first number rank ⌝ }
+{
+    let clear = six_bits(first) == 0;
+    let out = is_output(first);
+    let negated = is_negated(first);
+    let number = number as usize;
+    Said {
+        clear,
+        out,
+        negated,
+        number,
+        rank,
+    }
+}
+
+// The literal that begins at place i of a body, wide or not.
+fn literal_at(body: &[u8], i: usize, wide: bool) -> Said
+    requires { ⌜ i + literalSize wide ≤ length (now body) ⌝ }
+    ensures { λ l. ⌜ l ≡ literalAt wide (now (body .entry)) i ⌝ }
+{
+    if wide {
+        return wide_said(body[i], body[i + 1], body[i + 2]);
+    }
+    narrow_said(body[i], body[i + 1])
+}
+
+// The literal at place i of a body; none where too few bytes are left.
+fn said_at(body: &[u8], i: usize, wide: bool) -> Said
+    requires { ⌜ i < length (now body) ⌝ }
+    ensures { λ l. ⌜ l ≡ saidAt wide (now (body .entry)) i ⌝ }
+{
+    if literal_size(wide) <= body.len() - i {
+        return literal_at(body, i, wide);
     }
     Said {
         clear: false,
@@ -154,18 +193,39 @@ fn refused_literals(number: u8) -> Literals
     }
 }
 
-// The constraint of a body of literals, for a set of r read points and n outputs; of MOST_OUTPUTS where n is more.
-pub fn literals_of(body: &[u8], r: usize, n: usize) -> Literals
-    ensures { λ l. ⌜ l ≡ literalsOf r (min n mostOutputs) (now (body .entry)) ⌝ }
+// After the last literal: a wide body names a read point above 15, and every body an output. `next` is the place behind the last literal.
+fn last_literal(wide: bool, next: usize, word: u64, ranks: [u8; MOST_OUTPUTS]) -> Literals
+    ensures { λ l. ⌜ l ≡ lastLiteral wide next (ofWord word ranks) ⌝ }
 {
-    let most = least(n, MOST_OUTPUTS);
+    let made = constraint_of(word, ranks);
+    let low = both(wide, !names_high(made));
+    let bare = next <= MOST_READS;
+    if low {
+        return refused_literals(NO_HIGH_READ);
+    }
+    if bare {
+        return refused_literals(NO_OUTPUT);
+    }
+    Literals {
+        taken: Taken::Good,
+        made,
+    }
+}
+
+// The literals of a body, one loop for both forms.
+fn literals_in(body: &[u8], wide: bool, r: usize, n: usize) -> Literals
+    ensures { λ l. ⌜ l ≡ literalsOf wide (min r mostReads) (min n mostOutputs) (now (body .entry)) ⌝ }
+{
+    let reads = least(r, MOST_READS);
+    let outputs = least(n, MOST_OUTPUTS);
+    let size = literal_size(wide);
     let mut word = 0;
     let mut ranks = [0u8; MOST_OUTPUTS];
     let mut next = 0;
     let mut i = 0;
     while i < body.len() {
-        let l = said_at(body, i);
-        if !is_literal(l, r, most) {
+        let l = said_at(body, i, wide);
+        if !is_literal(l, reads, outputs) {
             return refused_literals(BAD_LITERAL);
         }
         let place = place_of(l);
@@ -174,18 +234,22 @@ pub fn literals_of(body: &[u8], r: usize, n: usize) -> Literals
         }
         word = with_literal(word, l.negated, place);
         next = place + 1;
-        i = i + 2;
+        i = i + size;
         if l.out {
             let number = l.number;
             ranks[number] = l.rank;
         }
     }
-    if next <= MOST_READS {
-        return refused_literals(NO_OUTPUT);
+    last_literal(wide, next, word, ranks)
+}
+
+// The constraint of a body of literals, wide or not, for a set of r read points and n outputs; of MOST_READS and MOST_OUTPUTS where these are more.
+// Each form has its own call, so that the compiler makes a loop for each.
+pub fn literals_of(body: &[u8], wide: bool, r: usize, n: usize) -> Literals
+    ensures { λ l. ⌜ l ≡ literalsOf wide (min r mostReads) (min n mostOutputs) (now (body .entry)) ⌝ }
+{
+    if wide {
+        return literals_in(body, true, r, n);
     }
-    let made = constraint_of(word, ranks);
-    Literals {
-        taken: Taken::Good,
-        made,
-    }
+    literals_in(body, false, r, n)
 }

@@ -1,6 +1,6 @@
 -- How a load goes on, field after field: what a loop over fields has come to, at each of its ways out.
 -- Assumes nothing.
-use mathlib.Core.Path.{_≡_, refl, sym, _∙_, ap, ap₂}
+use mathlib.Core.Path.{_≡_, refl, sym, _∙_, ap}
 use mathlib.Core.Bool.{Bool, true, false, cond}
 use mathlib.Core.List.{List}
 use Prim.Native.Nat.{ℕ, zero, suc, _+_, _-_, _≤_, _<_, min}
@@ -19,6 +19,7 @@ use Rattle.header.specs.declared.header.Header.the-variants.{Refused as Stopped
 use Rattle.header.specs.Header.{headerOf, bodyOf}
 use Rattle.header.specs.declared.numbers.Taken.{Taken}
 use Rattle.literal.specs.declared.literal.Literals.{Literals}
+use Rattle.header.specs.Tag.{isWide}
 use Rattle.literal.specs.Literal.{literalsOf}
 use Rattle.loader.specs.declared.loader.Progress.{Progress}
 use Rattle.loader.specs.declared.loader.Progress.the-variants.{At, Refused}
@@ -93,16 +94,16 @@ module _ (s : List ℕ) (whole : Loading) (at : ℕ) (set : Set) (few : set .m �
         go false = refl
 
     -- a constraint, by its literals
-    module _ (t : tag ≡ 5 → ⊥) (f : Literals) (few-outputs : set .n ≤ mostOutputs)
-        (e : f ≡ literalsOf (set .r) (min (set .n) mostOutputs) (take (at + 3 + len - (at + 3)) (drop (at + 3) s))) where
+    module _ (t : tag ≡ 5 → ⊥) (wide : Bool) (w : wide ≡ isWide tag) (f : Literals) (few-points : (set .r ≤ mostReads) × (set .n ≤ mostOutputs))
+        (e : f ≡ literalsOf wide (min (set .r) mostReads) (min (set .n) mostOutputs) (take (at + 3 + len - (at + 3)) (drop (at + 3) s))) where
       on : whole ≡ andThen (constraintGiven at len set f) (constraintsFrom s (mostConstraints - set .m))
       unfolding constraintAt
       on =
           let rest = constraintsFrom s (mostConstraints - set .m) in
-          let no-end : constraintsGiven s at set rest (Field tag len) ≡ andThen (constraintAt s at len set) rest = simp (ne-eqb _ _ t) in
+          let no-end : constraintsGiven s at set rest (Field tag len) ≡ andThen (constraintAt s at tag len set) rest = simp (ne-eqb _ _ t) in
           next-given (Field tag len) h ∙ no-end
           ∙ ap (λ (g : Literals). andThen (constraintGiven at len set g) (constraintsFrom s (mostConstraints - set .m)))
-          (sym (e ∙ ap₂ (literalsOf (set .r)) (min-eq-left few-outputs) (body-at s at len)))
+          (sym (e ∙ (λ i. literalsOf (w i) (min-eq-left (few-points .0) i) (min-eq-left (few-points .1) i) (body-at s at len i))))
 
       pub constraints-by : (x : Taken) → f .taken ≡ x → whole ≡ andThen (fieldDone at len x (withConstraint set (f .made))) (constraintsFrom s (mostConstraints - set .m))
       constraints-by x q = on ∙ ap (λ (y : Taken). andThen (fieldDone at len y (withConstraint set (f .made))) (constraintsFrom s (mostConstraints - set .m))) q

@@ -23,6 +23,7 @@ use Rattle.loader.specs.declared.loader.Progress.{Progress}
 use Rattle.loader.specs.declared.loader.Progress.the-variants.{At, Refused}
 use Rattle.loader.specs.declared.loader.LoadAnswer.the-variants.{Loaded, Refused as WasRefused}
 use Rattle.header.specs.Header.{headerOf, bodyOf}
+use Rattle.header.specs.Tag.{isWide}
 use Rattle.literal.specs.Literal.{literalsOf}
 use Rattle.loader.specs.Load.{Loading, refusal, goingOn, thenFrom, andThen, fieldDone, fieldBy, goodIf, countsTold, countsMade, countsAt, readOf, withRead, readAt, readsFrom}
 use Rattle.loader.specs.Load.{outputOf, withOutput, outputAt, outputsFrom, restWord, restGood, restAt, afterRest, afterOutputs, withConstraint, constraintAt, endAt, constraintsGiven, constraintsFrom, afterCounts, afterReads, answerOf, loadFrom, loadOf}
@@ -101,12 +102,12 @@ rest-shows file at s e =
     made : List ℕ → Set
     made body = withRest s (restWord body)
 
-constraint-shows : (s : List ℕ) (at len : ℕ) (set : Set) → 1 ≤ set .n → Shows (constraintAt s at len set)
+constraint-shows : (s : List ℕ) (at tag len : ℕ) (set : Set) → 1 ≤ set .n → Shows (constraintAt s at tag len set)
 unfolding constraintAt
-constraint-shows s at len set e = go (literalsOf (set .r) (set .n) (bodyOf (drop at s) len) .taken)
+constraint-shows s at tag len set e = go (literalsOf (isWide tag) (set .r) (set .n) (bodyOf (drop at s) len) .taken)
   where
     c : Constraint
-    c = literalsOf (set .r) (set .n) (bodyOf (drop at s) len) .made
+    c = literalsOf (isWide tag) (set .r) (set .n) (bodyOf (drop at s) len) .made
 
     go : (t : Taken) → Shows (fieldDone at len t (withConstraint set c))
     go (Denied number) = refl
@@ -115,8 +116,8 @@ constraint-shows s at len set e = go (literalsOf (set .r) (set .n) (bodyOf (drop
 given-shows : (s : List ℕ) (at : ℕ) (set : Set) (next : ℕ → Set → Loading) → 1 ≤ set .n → ((a : ℕ) (t : Set) → 1 ≤ t .n → Shows (next a t)) → (h : Header) → Shows (constraintsGiven s at set next h)
 given-shows s at set next e f (Stopped number) = refl
 given-shows s at set next e f (Field tag len) =
-    cond-shows (eqb tag 5) (endAt s at set) (andThen (constraintAt s at len set) next)
-    (λ t. end (ltb (at + 3) (length s))) (then-shows (constraintAt s at len set) next (constraint-shows s at len set e) f)
+    cond-shows (eqb tag 5) (endAt s at set) (andThen (constraintAt s at tag len set) next)
+    (λ t. end (ltb (at + 3) (length s))) (then-shows (constraintAt s at tag len set) next (constraint-shows s at tag len set e) f)
   where
     end : (b : Bool) → Shows (cond b (refusal 12 (at + 3)) (goingOn (at + 3) set))
     end true = refl

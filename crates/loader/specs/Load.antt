@@ -1,6 +1,6 @@
--- Loading, front to back: one 0x01, r of 0x02, n of 0x03, at most one 0x06, up to `mostConstraints` of 0x04, one 0x05, and nothing after. Each field is taken from the front of
+-- Loading, front to back: one 0x01, r of 0x02, n of 0x03, at most one 0x06, up to `mostConstraints` of 0x04 and 0x07, one 0x05, and nothing after. Each field is taken from the front of
 -- what is left of the file s at the place `at`, which is the offset that a refusal gives. The tests of a field come in the order of their
--- numbers: 1 to 4 in specs/Header, 9 to 11 in specs/Literal, the others here.
+-- numbers: 1 to 4 in header/specs/Header, 9 to 11 and 59 in literal/specs/Literal, the others here.
 -- Assumes nothing.
 use Prim.Native.Nat.{ℕ, zero, suc, _+_, _*_, _^_}
 use mathlib.Core.Bool.{Bool, true, false, cond, _&&_}
@@ -32,6 +32,7 @@ use Rattle.loader.specs.declared.loader.Progress.the-variants.{At, Refus
 use Rattle.loader.specs.declared.loader.LoadAnswer.{LoadAnswer}
 use Rattle.loader.specs.declared.loader.LoadAnswer.the-variants.{Loaded as WasLoaded, Refused as WasRefused}
 use Rattle.loader.specs.declared.loader.Loaded.{Loaded}
+use Rattle.header.specs.Tag.{isWide}
 use Rattle.header.specs.Header.{headerOf, bodyOf}
 use Rattle.literal.specs.Literal.{literalsOf}
 
@@ -192,7 +193,7 @@ restAt s at set =
     let given = fieldAt s at 6 (λ body. restGood (restWord body) (set .n)) (λ body. withRest set (restWord body)) in
     cond (eqb (getD (drop at s) 0 0) 6) given (goingOn at set)
 
--- ---- 0x04: literals
+-- ---- 0x04 and 0x07: literals
 
 -- the set with a constraint more
 abbrev pub withConstraint : Set → Constraint → Set
@@ -202,9 +203,9 @@ withConstraint set c = withCounts (withConstraints set (store (set .constraints)
 abbrev pub constraintGiven : ℕ → ℕ → Set → Literals → Loading
 constraintGiven at len set got = fieldDone at len (got .taken) (withConstraint set (got .made))
 
--- a constraint whose body has `len` bytes
-unfoldable pub constraintAt : List ℕ → ℕ → ℕ → Set → Loading
-constraintAt s at len set = constraintGiven at len set (literalsOf (set .r) (set .n) (bodyOf (drop at s) len))
+-- a constraint of this tag whose body has `len` bytes
+unfoldable pub constraintAt : List ℕ → ℕ → ℕ → ℕ → Set → Loading
+constraintAt s at tag len set = constraintGiven at len set (literalsOf (isWide tag) (set .r) (set .n) (bodyOf (drop at s) len))
 
 -- ---- 0x05: the end
 
@@ -216,7 +217,7 @@ endAt s at set = cond (ltb (at + 3) (length s)) (refusal 12 (at + 3)) (goingOn (
 abbrev pub constraintsGiven : List ℕ → ℕ → Set → (ℕ → Set → Loading) → Header → Loading
 constraintsGiven s at set next (Stopped number) = refusal number at
 constraintsGiven s at set next (Field tag len) =
-    let on = andThen (constraintAt s at len set) next in
+    let on = andThen (constraintAt s at tag len set) next in
     cond (eqb tag 5) (endAt s at set) on
 
 -- constraints up to the end, at most `left` fields; a constraint above the most is refused by its header, so that one field more is enough and

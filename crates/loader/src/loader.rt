@@ -10,6 +10,7 @@ use header::TAG_COUNTS;
 use header::TAG_END;
 use header::Taken;
 use header::front_at;
+use header::is_wide;
 use literal::literals_of;
 use scan::Constraint;
 use scan::Kind;
@@ -225,7 +226,7 @@ fn ended(progress: Progress, m: usize, constraints: [Constraint; MOST_CONSTRAINT
 
 // Constraints from `at` up to the end, for a set of r read points and n outputs.
 fn constraints_at(s: &[u8], at: usize, r: usize, n: usize) -> Constraints
-    requires { ⌜ n ≤ mostOutputs ⌝ }
+    requires { ⌜ (r ≤ mostReads) × (n ≤ mostOutputs) ⌝ }
     ensures { λ l. ⌜ ((rest : ℕ) (reads : List ReadPoint) (outputs : List OutputPoint) → reached (l .progress) (wholeSet r n (l .m) rest reads outputs (l .constraints)) ≡ afterRest (now (s .entry)) at (restedSet r n rest reads outputs)) ⌝ }
 {
     let mut constraints = zero_constraints();
@@ -243,7 +244,8 @@ fn constraints_at(s: &[u8], at: usize, r: usize, n: usize) -> Constraints
                 if tag == TAG_END {
                     return ended(end_at(s, here), m, constraints);
                 }
-                let f = literals_of(&s[here + 3..here + 3 + len], r, n);
+                let wide = is_wide(tag);
+                let f = literals_of(&s[here + 3..here + 3 + len], wide, r, n);
                 let taken = f.taken;
                 match taken {
                     Taken::Refused(number) => {
@@ -289,7 +291,7 @@ fn after_rest(
     reads: [ReadPoint; MOST_READS],
     outputs: [OutputPoint; MOST_OUTPUTS],
 ) -> Loaded
-    requires { ⌜ n ≤ mostOutputs ⌝ }
+    requires { ⌜ (r ≤ mostReads) × (n ≤ mostOutputs) ⌝ }
     ensures { λ l. ⌜ l ≡ answered (afterRest (now (s .entry)) at (restedSet r n rest reads outputs)) ⌝ }
 {
     let l = constraints_at(s, at, r, n);
@@ -322,7 +324,7 @@ fn after_outputs(
     reads: [ReadPoint; MOST_READS],
     outputs: [OutputPoint; MOST_OUTPUTS],
 ) -> Loaded
-    requires { ⌜ n ≤ mostOutputs ⌝ }
+    requires { ⌜ (r ≤ mostReads) × (n ≤ mostOutputs) ⌝ }
     ensures { λ l. ⌜ l ≡ answered (afterOutputs (now (s .entry)) at (pointsSet r n reads outputs)) ⌝ }
 {
     let l = rest_at(s, at, n);

@@ -1,9 +1,9 @@
--- The worked cases hold, by computation: document 01's starred ones, those for what they leave open, and those of change requests K5, K6, K8 and K10.
+-- The worked cases hold, by computation: document 01's starred ones, those for what they leave open, and those of change requests K5, K6, K8, K10 and K11.
 -- Assumes nothing.
 use mathlib.Core.Path.{refl}
 use lib.Count.{onesIn}
 use Rattle.words.specs.Word.{odd, bit, without, meets, popcount}
-use Rattle.words.specs.Loop.{gather, bitIf, word, some, all, firstFrom, first, joined}
+use Rattle.words.specs.Loop.{gather, bitIf, word, some, all, firstFrom, first, joined, listed}
 use Rattle.scan.specs.Set.{zeroSet, constraint, kind}
 use Rattle.scan.specs.Names.{nameByte, allNameBytes, nameLength, nameBytes, placeOk, nameOk, nameZero, sameName, readNamed, firstRead, outputNamed, firstOutput, isUsed}
 use Rattle.scan.specs.Shape.{countTests, lengthTests, kindOk, readOk, readZero, readPlace, outputOk, outputPlace, rankOk, constraintTests, constraintZero, constraintPlace, setTests, wellFormed}
@@ -20,12 +20,14 @@ use Rattle.verdict.specs.Judge.{endless, lacks, hasEndless, noneAt, vectorAt, e
 use Rattle.verdict.specs.FirstFailing.{fails, rejectionBy, rejection, verdictAt, firstFailing}
 use Rattle.start.specs.Start.{startOf}
 use Rattle.header.specs.Header.{rawOf, headerOf}
-use Rattle.literal.specs.Literal.{narrows, withLiteral, literalsFrom}
+use Rattle.header.specs.Tag.{namesHigh}
+use Rattle.literal.specs.Literal.{narrows, wides, withLiteral, literalsFrom}
 use Rattle.loader.specs.Load.{countsAt, nameField, kindOf, readField, readOf, readAt, readsFrom, outputOf, outputAt, outputsFrom, restAt, constraintAt, constraintsFrom, loadFrom, loadOf}
+use Rattle.writer.specs.Write.{fieldsOf, restField, writeOf, literalsBy, readLiteral as readBytes, outputLiteral as outputBytes}
 use Rattle.decimal.specs.Decimal.{leading, decimal}
 use Rattle.text.specs.Text.{restLine, readLiteral, outputLiteral, neverLine, shownLines, spacedWords, linesText, textOf}
 use Rattle.promise.specs.Clash.{judgeUnnamed}
-use Rattle.promise.specs.Cases.{AllAnswered, starred, further, orderCases, restCases, scratchCases, clashCases, scanCases, findCases, textCases}
+use Rattle.promise.specs.Cases.{AllAnswered, starred, further, orderCases, restCases, scratchCases, clashCases, twentyCases, scanCases, findCases, textCases}
 
 pub starred-hold : AllAnswered starred
 unfolding onesIn odd bit without meets popcount gather bitIf word some all firstFrom first zeroSet constraint kind nameByte nameLength placeOk nameOk
@@ -41,7 +43,7 @@ unfolding onesIn odd bit without meets popcount gather bitIf word some all first
     constraintTests constraintZero constraintPlace setTests wellFormed readsTrue outsTrue isTrue simple combined trueAt safe holding toZero toOne F0
     F1 bothWays reckoned unheldBy unheld unheldCount startFrom startVector lowest hasRank yielding yields fires flips pass walkBy walk readingAt readWord stateOk isPast
     sensorOk requestOk scanOf run hasVector endless lacks hasEndless noneAt vectorAt endlessAt judgeWords scratchBytes judgeOf startOf
-    rawOf headerOf spelling nameField kindOf readField readOf readAt readsFrom outputOf outputAt outputsFrom restAt narrows withLiteral literalsFrom constraintAt
+    rawOf headerOf spelling nameField kindOf readField readOf readAt readsFrom outputOf outputAt outputsFrom restAt namesHigh narrows wides withLiteral literalsFrom constraintAt
     constraintsFrom countsAt loadFrom loadOf allNameBytes isUsed
 further-hold = refl
 
@@ -51,7 +53,7 @@ unfolding onesIn odd bit without meets popcount gather bitIf word some all first
     constraintTests constraintZero constraintPlace setTests wellFormed readsTrue outsTrue isTrue simple combined trueAt safe holding toZero toOne F0
     F1 bothWays reckoned unheldBy unheld unheldCount startFrom startVector lowest hasRank yielding yields fires flips pass walkBy walk readingAt readWord stateOk isPast
     sensorOk requestOk scanOf run hasVector endless lacks hasEndless noneAt vectorAt endlessAt judgeWords fails rejectionBy rejection verdictAt firstFailing scratchBytes judgeOf startOf
-    rawOf headerOf spelling nameField kindOf readField readOf readAt readsFrom outputOf outputAt outputsFrom restAt narrows withLiteral literalsFrom constraintAt
+    rawOf headerOf spelling nameField kindOf readField readOf readAt readsFrom outputOf outputAt outputsFrom restAt namesHigh narrows wides withLiteral literalsFrom constraintAt
     constraintsFrom countsAt loadFrom loadOf allNameBytes isUsed
 orders-worked = refl
 
@@ -61,7 +63,7 @@ unfolding onesIn odd bit without meets popcount gather bitIf word some all first
     constraintTests constraintZero constraintPlace setTests wellFormed readsTrue outsTrue isTrue simple combined trueAt safe holding toZero toOne F0
     F1 bothWays reckoned unheldBy unheld unheldCount startFrom startVector lowest hasRank yielding yields fires flips pass walkBy walk readingAt readWord stateOk isPast
     sensorOk requestOk scanOf run hasVector endless lacks hasEndless noneAt vectorAt endlessAt judgeWords scratchBytes judgeOf startOf
-    rawOf headerOf spelling nameField kindOf readField readOf readAt readsFrom outputOf outputAt outputsFrom restAt narrows withLiteral literalsFrom constraintAt
+    rawOf headerOf spelling nameField kindOf readField readOf readAt readsFrom outputOf outputAt outputsFrom restAt namesHigh narrows wides withLiteral literalsFrom constraintAt
     constraintsFrom countsAt loadFrom loadOf allNameBytes isUsed
 rests-worked = refl
 
@@ -81,6 +83,15 @@ unfolding onesIn odd bit without meets popcount gather bitIf word some all first
     sensorOk requestOk scanOf run hasVector endless lacks hasEndless noneAt vectorAt endlessAt judgeWords fails rejectionBy rejection verdictAt firstFailing scratchBytes judgeOf judgeUnnamed startOf
 clashes-worked = refl
 
+pub twenty-worked : AllAnswered twentyCases
+unfolding onesIn odd bit without meets popcount gather bitIf word some all joined listed firstFrom first zeroSet constraint kind nameByte nameLength nameBytes placeOk nameOk
+    nameZero sameName readNamed firstRead outputNamed firstOutput countTests lengthTests kindOk readOk readZero readPlace outputOk outputPlace rankOk
+    constraintTests constraintZero constraintPlace setTests wellFormed readsTrue outsTrue isTrue simple combined trueAt safe holding toZero toOne F0
+    F1 bothWays reckoned unheldBy unheld unheldCount startFrom startVector lowest hasRank yielding yields fires flips pass walkBy walk readingAt readWord stateOk isPast
+    sensorOk requestOk scanOf run rawOf headerOf spelling nameField kindOf readField readOf readAt readsFrom outputOf outputAt outputsFrom restAt namesHigh narrows wides
+    withLiteral literalsFrom constraintAt constraintsFrom countsAt loadFrom loadOf allNameBytes isUsed readBytes outputBytes literalsBy fieldsOf restField writeOf
+twenty-worked = refl
+
 pub scans-worked : AllAnswered scanCases
 unfolding onesIn odd bit without meets popcount gather bitIf word some all firstFrom first zeroSet constraint kind nameByte allNameBytes nameLength
     placeOk nameOk nameZero sameName readNamed firstRead outputNamed firstOutput countTests lengthTests kindOk readOk readZero readPlace outputOk
@@ -97,7 +108,7 @@ finds-worked = refl
 
 pub texts-worked : AllAnswered textCases
 unfolding onesIn odd bit popcount some all joined firstFrom first nameByte allNameBytes nameLength nameBytes sameName readNamed firstRead outputNamed
-    firstOutput isUsed countTests zeroSet rawOf headerOf spelling nameField kindOf readField readOf readAt readsFrom outputOf outputAt outputsFrom restAt narrows
-    withLiteral literalsFrom constraintAt constraintsFrom countsAt loadFrom loadOf leading decimal restLine readLiteral outputLiteral neverLine shownLines spacedWords
+    firstOutput isUsed countTests zeroSet rawOf headerOf spelling nameField kindOf readField readOf readAt readsFrom outputOf outputAt outputsFrom restAt namesHigh narrows
+    wides withLiteral literalsFrom constraintAt constraintsFrom countsAt loadFrom loadOf leading decimal restLine readLiteral outputLiteral neverLine shownLines spacedWords
     linesText textOf
 texts-worked = refl

@@ -48,7 +48,7 @@ outputs-tell : (file : List ℕ) (left j most at : ℕ) (s : Set) (a b : List (L
     → j + left ≡ s .n → Fresh s → Enough file most at
     → Tells (andThen (outputsFrom file left j at s) (afterOutputs file)) (outputsTests left (s .r) (s .n) (a ++ b) (fieldsFrom most at (drop at file)))
 unfolding outputsFrom outputsTests outputAt
-outputs-tell file zero j most at s a b ra rb sum fresh n = rest-tells file at s (fresh .0) most n
+outputs-tell file zero j most at s a b ra rb sum fresh n = rest-tells file at s (fresh .0) (fresh .2) (fresh .3) most n
 outputs-tell file (suc left) j zero at s a b ra rb sum fresh n = let x = n .0 in let y = n .1 in absurd (omega arith)
 outputs-tell file (suc left) j (suc most) at s a b ra rb sum fresh n =
     subst (λ (l : Loading). Tells l (outputsTests (suc left) (s .r) (s .n) (a ++ b) (fieldsFrom (suc most) at (drop at file))))
@@ -103,7 +103,7 @@ counts-same true true true true = refl
 
 fit-same : (r n : ℕ) → countsFit r n ≡ every (countTests r n 0)
 unfolding countsFit countTests
-fit-same r n = counts-same (leb r 16) (leb 1 n) (leb n 12) (leb (r + n) 24)
+fit-same r n = counts-same (leb r 20) (leb 1 n) (leb n 12) (leb (r + n) 24)
 
 load-tells : (file : List ℕ) → Tells (loadFrom file) (loadTests file)
 unfolding loadFrom loadTests inFields countsTests countsAt zeroSet

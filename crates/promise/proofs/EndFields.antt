@@ -1,7 +1,7 @@
 -- The fields behind the outputs: the column's tests of constraints and of the end tell how far they are loaded.
 -- Assumes nothing.
 use mathlib.Core.Path.{_≡_, refl, sym, ap, subst, _∙_}
-use mathlib.Core.Bool.{Bool, true, false, cond, _&&_, _||_}
+use mathlib.Core.Bool.{Bool, true, false, cond, _&&_, _||_, or-assoc, or-comm}
 use mathlib.Core.List.{List, [], _∷_, _++_}
 use mathlib.Core.Logic.{inl}
 use Prim.Native.Nat.{ℕ, zero, suc, _+_, _%_, _≤_, _<_}
@@ -11,9 +11,10 @@ use lib.ListN.{length, getD, drop, length-drop}
 use borrow.Author.Tests.{eqb-true, eqb-false, eq-eqb, ne-eqb, ltb-true, ltb-false}
 use Rattle.words.proofs.BoolLaws.{by-test}
 use Rattle.scan.specs.declared.set.Set.{Set}
-use Rattle.scan.specs.Set.{mostConstraints}
+use Rattle.scan.specs.Set.{mostReads, mostOutputs, mostConstraints}
 use Rattle.header.specs.declared.header.Header.the-variants.{Field}
 use Rattle.header.specs.Test.{Test, test, FirstFails, NoneFails}
+use Rattle.header.specs.Tag.{isConstraint, isWide, literalSize}
 use Rattle.header.specs.Header.{headerOf, bodyLength, bodyOf, fitsTable}
 use Rattle.header.proofs.HeaderLaws.{found, table-bounds, field-within, constraint-length}
 use Rattle.literal.specs.Literal.{literalsOf}
@@ -66,20 +67,21 @@ end-tells file most at s n =
 
 -- ---- constraints, and then the end
 
-pub constraints-tell : (file : List ℕ) (left most at : ℕ) (s : Set) → s .m + left ≡ suc mostConstraints → s .m ≤ mostConstraints → Enough file most at
+pub constraints-tell : (file : List ℕ) (left most at : ℕ) (s : Set) → s .m + left ≡ suc mostConstraints → s .m ≤ mostConstraints → s .r ≤ mostReads → s .n ≤ mostOutputs
+    → Enough file most at
     → Tells (constraintsFrom file left at s) (constraintsTests (s .r) (s .n) (s .m) (fieldsFrom most at (drop at file)))
 unfolding constraintsFrom constraintsTests constraintAt
-constraints-tell file zero most at s sum few n = absurd (omega arith)
-constraints-tell file (suc left) zero at s sum few n = let a = n .0 in let b = n .1 in absurd (omega arith)
-constraints-tell file (suc left) (suc most) at s sum few n =
+constraints-tell file zero most at s sum few few-reads few-outputs n = absurd (omega arith)
+constraints-tell file (suc left) zero at s sum few few-reads few-outputs n = let a = n .0 in let b = n .1 in absurd (omega arith)
+constraints-tell file (suc left) (suc most) at s sum few few-reads few-outputs n =
     by-header file most at 4 (s .m) column
     (record {
-      due = λ tag. eqb tag 4 || eqb tag 5;
-      full = λ tag. eqb tag 4 && leb mostConstraints (s .m);
-      more = λ tag body rest. cond (eqb tag 5) (endTests rest) (bodyTests at (s .r) (s .n) body ++ constraintsTests (s .r) (s .n) (s .m + 1) rest);
+      due = λ tag. isConstraint tag || eqb tag 5;
+      full = λ tag. isConstraint tag && leb mostConstraints (s .m);
+      more = λ tag body rest. cond (eqb tag 5) (endTests rest) (bodyTests at (s .r) (s .n) tag body ++ constraintsTests (s .r) (s .n) (s .m + 1) rest);
       low = lit≤ tt;
       high = lit≤ tt;
-      same-due = λ tag. refl;
+      same-due = λ tag. ap (λ (b : Bool). eqb tag 4 || b) (or-comm (eqb tag 5) (eqb tag 7)) ∙ sym (or-assoc (eqb tag 4) (eqb tag 7) (eqb tag 5));
       same-full = λ tag. refl;
       at-end = refl;
       at-cut = refl;
@@ -95,11 +97,12 @@ constraints-tell file (suc left) (suc most) at s sum few n =
     subst (λ (k : ℕ). Tells (endAt file at s) (endTests (fieldsFrom most k (drop k file)))) same
     (end-tells file most at s (subst (Enough file most) (sym same) on)))
     (λ e. let c = constraint-length (drop at file) (s .m) tag len (eqb-false tag 5 e) h in
-    let even : length body % 2 ≡ 0 = ap (λ (k : ℕ). k % 2) long ∙ c .1 in
-    let low = c .2 in
-    let got = literalsOf (s .r) (s .n) body in
-    done-tells at len (got .taken) (withConstraint s (got .made)) next (Unit {0}) (bodyTests at (s .r) (s .n) body) _ (body-tells at (s .r) (s .n) body even)
-    (λ u. constraints-tell file left most (at + 3 + len) (withConstraint s (got .made)) (omega arith) (omega arith) (enough-on file most at 4 (s .m) tag len h n)))))
+    let whole-literals : length body % literalSize (isWide tag) ≡ 0 = ap (λ (k : ℕ). k % literalSize (isWide tag)) long ∙ c .0 in
+    let low = c .1 in
+    let got = literalsOf (isWide tag) (s .r) (s .n) body in
+    done-tells at len (got .taken) (withConstraint s (got .made)) next (Unit {0}) (bodyTests at (s .r) (s .n) tag body) _
+    (body-tells at (s .r) (s .n) tag body whole-literals few-reads few-outputs)
+    (λ u. constraints-tell file left most (at + 3 + len) (withConstraint s (got .made)) (omega arith) (omega arith) few-reads few-outputs (enough-on file most at 4 (s .m) tag len h n)))))
   where
     column : Fields → List Test
     column = constraintsTests (s .r) (s .n) (s .m)
@@ -123,9 +126,9 @@ constraints-tell file (suc left) (suc most) at s sum few n =
     rest = fieldsFrom most (at + 3 + len) (drop (at + 3 + len) file)
 
     more : List Test
-    more = bodyTests at (s .r) (s .n) body ++ constraintsTests (s .r) (s .n) (s .m + 1) rest
+    more = bodyTests at (s .r) (s .n) tag body ++ constraintsTests (s .r) (s .n) (s .m + 1) rest
 
     go : (b : Bool) → ((p : Progress) → Agrees p (cond b (endTests rest) more) → Agrees p whole) → (b ≡ true → Tells (endAt file at s) (endTests rest))
-        → (b ≡ false → Tells (andThen (constraintAt file at len s) next) more) → Tells (cond b (endAt file at s) (andThen (constraintAt file at len s) next)) whole
+        → (b ≡ false → Tells (andThen (constraintAt file at tag len s) next) more) → Tells (cond b (endAt file at s) (andThen (constraintAt file at tag len s) next)) whole
     go true f x y = f (endAt file at s .progress) (x refl)
-    go false f x y = f (andThen (constraintAt file at len s) next .progress) (y refl)
+    go false f x y = f (andThen (constraintAt file at tag len s) next .progress) (y refl)

@@ -2,9 +2,9 @@
 -- Assumes nothing.
 use mathlib.Core.Path.{_≡_, refl, sym, ap, subst, _∙_}
 use mathlib.Core.Bool.{Bool, true, false, cond}
-use mathlib.Core.List.{List, [], _∷_, _++_}
+use mathlib.Core.List.{List, [], _∷_, _++_, map}
 use mathlib.Core.Logic.{_↔_, inl, inr}
-use Prim.Native.Nat.{ℕ, _+_, _/_, _%_, _<_}
+use Prim.Native.Nat.{ℕ, _/_, _%_, _<_}
 use native.Mathlib.Decide.{ℕ-discrete}
 use native.Mathlib.Omega.{arith}
 use lib.Dec.{eqb}
@@ -19,16 +19,18 @@ use Rattle.scan.proofs.ShapeLaws.{counts, masks}
 use Rattle.header.specs.Bytes.{Bytes}
 use Rattle.loader.specs.Load.{loadOf}
 use Rattle.loader.specs.Told.{loadTold}
-use Rattle.writer.specs.Write.{kindBytes, literalBody, restBody, writeOf}
+use Rattle.writer.specs.Write.{kindBytes, restBody, writeOf}
 use Rattle.setfile.proofs.WriteLoaded.{write-loaded}
 use Rattle.promise.specs.Allowed.{readName, outputName}
 use Rattle.promise.specs.Terms.{Bit, TrueAt}
-use Rattle.promise.specs.FileSays.{bodyOfRead, bodyOfOutput, bodyOfConstraint, KindSays, RestSays, HasLiteral, literalByte, rankByte, LiteralTrue, Says, MasksSay, Guards, FileSays}
+use Rattle.promise.specs.Fields.{inFields, TagBody, constraintsIn}
+use Rattle.promise.specs.FileSays.{bodyOfRead, bodyOfOutput, fieldOfConstraint, KindSays, RestSays, HasLiteral, firstByte, pointNumber, rankByte, LiteralTrue, Says, MasksSay, NamesAbove15, Guards, FileSays}
 use Rattle.promise.proofs.FileRefusals.{told-loaded}
 use Rattle.promise.proofs.NameRefusals.{find-refusals}
 use Rattle.promise.proofs.WrittenFields.{SetFields, restBodies, written-fields}
 use Rattle.promise.proofs.RestWords.{rest-word}
-use Rattle.promise.proofs.ConstraintsSay.{mask-says, true-says, rank-says, output-says, read-says}
+use Rattle.promise.proofs.BodyLiterals.{fieldFor}
+use Rattle.promise.proofs.ConstraintsSay.{mask-says, wide-says, true-says, rank-says, output-says, read-says}
 
 -- ---- read points
 
@@ -70,42 +72,48 @@ module _ (file : List ℕ) (s : Set) (ok : wellFormed s ≡ true) (f : SetFields
   output-names : (j : ℕ) → j < s .n → outputName s j ≡ bodyOfOutput file j
   output-names j h = sym (f .output-body j h)
 
-  -- what is said of the body of a constraint is said of its field
+  -- what is said of the field of a constraint is said of the one in the file
   module _ (i : ℕ) (h : i < s .m) where
-    by-body : (P : List ℕ → Type 0) → P (literalBody (constraint s i)) → P (bodyOfConstraint file i)
-    by-body P p = subst P (sym (f .constraint-body i h)) p
+    by-field : (P : TagBody → Type 0) → P (fieldFor (constraint s i)) → P (fieldOfConstraint file i)
+    by-field P p = subst P (sym (f .constraint-field i h)) p
+
+    wide-tag : (fieldOfConstraint file i .tag ≡ 0x07) ↔ NamesAbove15 s i
+    wide-tag =
+        let c = counts s ok in
+        by-field (λ (x : TagBody). (x .tag ≡ 0x07) ↔ NamesAbove15 s i) (wide-says (s .r) (s .n) (c .r-le) (c .n-le) (constraint s i) (masks s ok i h))
 
     masks-say : (k : ℕ) → MasksSay file s i k
     masks-say k =
         let c = counts s ok in
         let says = mask-says (s .r) (s .n) (c .r-le) (c .n-le) (constraint s i) (masks s ok i h) in
         record {
-          read-plain = by-body (λ (body : List ℕ). Bit k (constraint s i .«read_plain») ↔ ((k < 16) × Says body k)) (says false false k);
-          read-negated = by-body (λ (body : List ℕ). Bit k (constraint s i .«read_negated») ↔ ((k < 16) × Says body (0x80 + k))) (says false true k);
-          out-plain = by-body (λ (body : List ℕ). Bit k (constraint s i .«out_plain») ↔ ((k < 16) × Says body (0x40 + k))) (says true false k);
-          out-negated = by-body (λ (body : List ℕ). Bit k (constraint s i .«out_negated») ↔ ((k < 16) × Says body (0xC0 + k))) (says true true k);
+          read-plain = by-field (λ (x : TagBody). Bit k (constraint s i .«read_plain») ↔ Says x 0 k) (says false false k);
+          out-plain = by-field (λ (x : TagBody). Bit k (constraint s i .«out_plain») ↔ Says x 1 k) (says true false k);
+          read-negated = by-field (λ (x : TagBody). Bit k (constraint s i .«read_negated») ↔ Says x 2 k) (says false true k);
+          out-negated = by-field (λ (x : TagBody). Bit k (constraint s i .«out_negated») ↔ Says x 3 k) (says true true k);
         }
 
-    constraint-says : (w v : ℕ) → TrueAt s w v i ↔ ((j : ℕ) → HasLiteral (bodyOfConstraint file i) j → LiteralTrue (literalByte (bodyOfConstraint file i) j) w v)
+    constraint-says : (w v : ℕ)
+        → TrueAt s w v i ↔ ((j : ℕ) → HasLiteral (fieldOfConstraint file i) j → LiteralTrue (firstByte (fieldOfConstraint file i) j) (pointNumber (fieldOfConstraint file i) j) w v)
     constraint-says w v =
         let c = counts s ok in
-        by-body (λ (body : List ℕ). TrueAt s w v i ↔ ((j : ℕ) → HasLiteral body j → LiteralTrue (literalByte body j) w v))
+        by-field (λ (x : TagBody). TrueAt s w v i ↔ ((j : ℕ) → HasLiteral x j → LiteralTrue (firstByte x j) (pointNumber x j) w v))
         (true-says (s .r) (s .n) (c .r-le) (c .n-le) (constraint s i) (masks s ok i h) w v)
 
-    ranks-say : (j : ℕ) → HasLiteral (bodyOfConstraint file i) j → Bit 6 (literalByte (bodyOfConstraint file i) j)
-        → rank (constraint s i) (literalByte (bodyOfConstraint file i) j % 16) ≡ rankByte (bodyOfConstraint file i) j
+    ranks-say : (j : ℕ) → HasLiteral (fieldOfConstraint file i) j → Bit 6 (firstByte (fieldOfConstraint file i) j)
+        → rank (constraint s i) (pointNumber (fieldOfConstraint file i) j) ≡ rankByte (fieldOfConstraint file i) j
     ranks-say =
         let c = counts s ok in
-        by-body (λ (body : List ℕ). (j : ℕ) → HasLiteral body j → Bit 6 (literalByte body j) → rank (constraint s i) (literalByte body j % 16) ≡ rankByte body j)
+        by-field (λ (x : TagBody). (j : ℕ) → HasLiteral x j → Bit 6 (firstByte x j) → rank (constraint s i) (pointNumber x j) ≡ rankByte x j)
         (rank-says (s .r) (s .n) (c .r-le) (c .n-le) (constraint s i) (masks s ok i h))
 
     -- by names: finding gives a point for its own name
-    guards : (j : ℕ) → HasLiteral (bodyOfConstraint file i) j → Guards file s (literalByte (bodyOfConstraint file i) j)
+    guards : (j : ℕ) → HasLiteral (fieldOfConstraint file i) j → Guards file s (firstByte (fieldOfConstraint file i) j) (pointNumber (fieldOfConstraint file i) j)
     guards =
         let c = counts s ok in
-        by-body (λ (body : List ℕ). (j : ℕ) → HasLiteral body j → Guards file s (literalByte body j))
+        by-field (λ (x : TagBody). (j : ℕ) → HasLiteral x j → Guards file s (firstByte x j) (pointNumber x j))
         (λ j l.
-        let k = literalByte (literalBody (constraint s i)) j % 16 in
+        let k = pointNumber (fieldFor (constraint s i)) j in
         record {
           output = λ b.
               let within = output-says (s .r) (s .n) (c .r-le) (c .n-le) (constraint s i) (masks s ok i h) j l b in
@@ -118,13 +126,17 @@ module _ (file : List ℕ) (s : Set) (ok : wellFormed s ≡ true) (f : SetFields
   fields-say : FileSays file s
   fields-say = record {
     whole = f .whole;
-    order = f .order ∙ ap (λ (l : List (List ℕ)). 0x01 ∷ replicate (s .r) 0x02 ++ replicate (s .n) 0x03 ++ replicate (length l) 0x06 ++ replicate (s .m) 0x04 ++ 0x05 ∷ []) (sym (f .rests));
+    order =
+        f .order
+        ∙ ap (λ (l : List (List ℕ)). 0x01 ∷ replicate (s .r) 0x02 ++ replicate (s .n) 0x03 ++ replicate (length l) 0x06 ++ map (λ x. x .tag) (constraintsIn (inFields file)) ++ 0x05 ∷ []) (sym (f .rests));
+    many = f .many;
     counts = f .counts;
     kinds = kinds;
     read-names = read-names;
     output-names = output-names;
     rest = subst (λ (l : List (List ℕ)). RestSays l (s .rest)) (sym (f .rests)) (rest-says (s .rest));
     rest-by-name = λ k b. let within = rest-word .bits s ok k b in find-refusals s (bodyOfOutput file k) .output k .1 (ok, within, output-names k within);
+    wide = wide-tag;
     constraints = constraint-says;
     masks = masks-say;
     ranks = ranks-say;

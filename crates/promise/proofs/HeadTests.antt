@@ -9,13 +9,14 @@ use native.Mathlib.Omega.{arith}
 use lib.Dec.{leb, eqb}
 use lib.ListN.{length, getD, drop}
 use borrow.Author.Tests.{eqb-true, eqb-false, leb-true, le-leb, eq-eqb}
-use Rattle.words.proofs.BoolLaws.{by-test, and-true, and-unit, and-false, or-true}
+use Rattle.words.proofs.BoolLaws.{by-test, and-true, and-unit, and-false, and-assoc, or-true}
 use Rattle.scan.specs.declared.set.Set.{Set}
 use Rattle.scan.specs.Set.{mostConstraints}
 use Rattle.header.specs.declared.header.Header.the-variants.{Refused as Stopped, Field}
 use Rattle.header.specs.declared.numbers.Taken.{Taken}
 use Rattle.header.specs.declared.numbers.Taken.the-variants.{Refused as Denied, Good}
 use Rattle.header.specs.Test.{Test, FirstFails, NoneFails}
+use Rattle.header.specs.Tag.{isConstraint}
 use Rattle.header.specs.Header.{headerOf, bodyOf, bodyLength, isCut, isDue, fitsTable}
 use Rattle.header.proofs.TestLaws.{first-front, first-behind, none-joined}
 use Rattle.header.proofs.HeaderLaws.{raw-cut, raw-field, past-end, not-due, too-many, not-in-table, a-field}
@@ -68,39 +69,40 @@ table-one want len =
     (λ b. rw (t, a, b)))
     (λ a. rw (t, a)))
 
--- a tag's last place in the table
-table-end : (a b c : Bool) → ((a && b) && c) || false ≡ a && (b && c)
-table-end true true true = refl
-table-end true true false = refl
-table-end true false c = refl
-table-end false b c = refl
-
 or-none : (b : Bool) → b || false ≡ b
 or-none true = refl
 or-none false = refl
 
+-- one row of the table, where no later one fits
+table-row : (a b c : Bool) → ((a && b) && c) || false ≡ a && (b && c)
+table-row a b c = or-none ((a && b) && c) ∙ sym (and-assoc a b c)
+
 -- some lengths, all that there are between two
 table-all : (low high len : ℕ) → within low high len || false ≡ leb low len && (leb len high && eqb (len % 1) 0)
 table-all low high len =
-    ap (λ (b : Bool). b || false) (sym (and-unit (within low high len))) ∙ table-end (leb low len) (leb len high) true ∙ ap (λ (b : Bool). leb low len && (leb len high && b)) (sym (mod-one len))
+    ap (λ (b : Bool). b || false) (sym (and-unit (within low high len))) ∙ table-row (leb low len) (leb len high) true ∙ ap (λ (b : Bool). leb low len && (leb len high && b)) (sym (mod-one len))
 
 -- both tables are one; there is no tag 0
-table-same : (tag len : ℕ) → 1 ≤ tag → tag ≤ 6 → lengthFits tag len ≡ fitsTable tag len
+table-same : (tag len : ℕ) → 1 ≤ tag → tag ≤ 7 → lengthFits tag len ≡ fitsTable tag len
 unfolding lengthFits
 table-same zero len l h = absurd (omega arith)
 table-same (suc zero) len l h = or-none (eqb len 2) ∙ table-one 2 len
 table-same (suc (suc zero)) len l h = table-all 3 10 len
 table-same (suc (suc (suc zero))) len l h = table-all 1 8 len
-table-same (suc (suc (suc (suc zero)))) len l h = table-end (leb 2 len) (leb len 48) (eqb (len % 2) 0)
+table-same (suc (suc (suc (suc zero)))) len l h = table-row (leb 2 len) (leb len 48) (eqb (len % 2) 0)
 table-same (suc (suc (suc (suc (suc zero))))) len l h = or-none (eqb len 0) ∙ table-one 0 len
-table-same (suc (suc (suc (suc (suc (suc zero)))))) len l h = table-one 2 len
-table-same (suc (suc (suc (suc (suc (suc (suc tag))))))) len l h = absurd (omega arith)
+table-same (suc (suc (suc (suc (suc (suc zero)))))) len l h = or-none (eqb len 2) ∙ table-one 2 len
+table-same (suc (suc (suc (suc (suc (suc (suc zero))))))) len l h = sym (and-assoc (leb 3 len) (leb len 72) (eqb (len % 3) 0))
+table-same (suc (suc (suc (suc (suc (suc (suc (suc tag)))))))) len l h = absurd (omega arith)
 
-due-between : (wanted tag : ℕ) → 1 ≤ wanted → wanted ≤ 6 → isDue wanted tag ≡ true → (1 ≤ tag) × (tag ≤ 6)
+due-between : (wanted tag : ℕ) → 1 ≤ wanted → wanted ≤ 6 → isDue wanted tag ≡ true → (1 ≤ tag) × (tag ≤ 7)
 due-between wanted tag l h e =
     by-test (eqb tag wanted)
     (λ t. let s = eqb-true tag wanted t in (omega arith, omega arith))
-    (λ t. let s = eqb-true tag 5 (and-true (eqb wanted 4) (eqb tag 5) (or-true (eqb tag wanted) _ e t) .1) in (omega arith, omega arith))
+    (λ t. let others = and-true (eqb wanted 4) (eqb tag 5 || eqb tag 7) (or-true (eqb tag wanted) _ e t) .1 in
+    by-test (eqb tag 5)
+    (λ u. let s = eqb-true tag 5 u in (omega arith, omega arith))
+    (λ u. let s = eqb-true tag 7 (or-true (eqb tag 5) (eqb tag 7) others u) in (omega arith, omega arith)))
 
 -- ---- the header
 
@@ -112,7 +114,7 @@ pub record HeadColumn (at wanted m : ℕ) (column : Fields → List Test) : Type
   pub low : 1 ≤ wanted
   pub high : wanted ≤ 6
   pub same-due : (tag : ℕ) → isDue wanted tag ≡ due tag
-  pub same-full : (tag : ℕ) → (eqb tag 0x04 && leb mostConstraints m) ≡ full tag
+  pub same-full : (tag : ℕ) → (isConstraint tag && leb mostConstraints m) ≡ full tag
   pub at-end : column (ends at) ≡ missing at
   pub at-cut : column (cut at) ≡ missing at
   pub at-field : (tag : ℕ) (body : List ℕ) (rest : Fields) → column (field at tag body rest) ≡ headTests at (due tag) (full tag) tag body ++ more tag body rest
@@ -194,8 +196,8 @@ field-tells file most at wanted low high single column told made next P tests la
       more = λ tag body rest. tests body ++ later body rest;
       low = low;
       high = high;
-      same-due = λ tag. ap (λ (b : Bool). eqb tag wanted || (b && eqb tag 5)) single ∙ or-none (eqb tag wanted);
-      same-full = λ tag. and-false (eqb tag 4) false refl;
+      same-due = λ tag. ap (λ (b : Bool). eqb tag wanted || (b && (eqb tag 5 || eqb tag 7))) single ∙ or-none (eqb tag wanted);
+      same-full = λ tag. and-false (isConstraint tag) false refl;
       at-end = none;
       at-cut = torn;
       at-field = split;

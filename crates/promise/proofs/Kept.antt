@@ -33,6 +33,7 @@ use Rattle.loader.proofs.RefusedZero.{zero-not-loaded}
 use Rattle.promise.specs.Allowed.{StateAllowed, SensorAllowed, RequestAllowed, wordOf}
 use Rattle.promise.specs.Meanings.{Meanings}
 use Rattle.promise.specs.Promise.{Answers, Demand1, Demand2, Demand3, Promise}
+use Rattle.promise.proofs.FilesAsBefore.{files-of-today}
 use Rattle.promise.proofs.FileRefusals.{told-loaded, written-loads, load-refusals, write-refusals}
 use Rattle.promise.proofs.SetRefusals.{verdict-refusals}
 use Rattle.promise.proofs.ScanRefusals.{state-iff, sensor-iff, request-iff, scan-refusals}
@@ -130,6 +131,7 @@ demand-2 = record {
   load-written = loads-back;
   writes-bytes = written-bytes;
   write-loaded = writes-back;
+  files-of-today = files-of-today;
   one-file = one-file;
 }
 

@@ -33,6 +33,7 @@ pub mod BodyLiterals
 pub mod FirstBytes
 pub mod ConstraintsSay
 pub mod FilesSay
+pub mod FilesAsBefore
 pub mod TextLines
 pub mod LineLiterals
 pub mod ConstraintsShown

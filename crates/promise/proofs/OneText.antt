@@ -227,7 +227,7 @@ module _ (s t : Set) (os : wellFormed s ≡ true) (ot : wellFormed t ≡ true) (
       let lt = places-t .places in
       ext-getD noOutput (s .outputs) (t .outputs) (ls .1 ∙ sym (lt .1)) (λ j h. output-point j (omega (arith, ls .1)))
 
-  read-point : (k : ℕ) → k < 16 → readPoint (s .reads) k ≡ readPoint (t .reads) k
+  read-point : (k : ℕ) → k < 20 → readPoint (s .reads) k ≡ readPoint (t .reads) k
   unfolding kind
   read-point k h = go (decLt k (s .r))
     where

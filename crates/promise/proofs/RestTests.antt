@@ -4,13 +4,13 @@ use mathlib.Core.Path.{_≡_, refl, sym, ap, subst}
 use mathlib.Core.Bool.{Bool, true, false, not, cond, _&&_}
 use mathlib.Core.List.{List, [], _∷_, _++_}
 use mathlib.Core.Logic.{inl}
-use Prim.Native.Nat.{ℕ, zero, suc, _+_, _*_, _^_}
+use Prim.Native.Nat.{ℕ, zero, suc, _+_, _*_, _^_, _≤_}
 use native.Mathlib.Omega.{arith}
 use lib.Dec.{ltb, eqb, lit≤}
 use lib.ListN.{getD, drop}
 use Rattle.words.proofs.BoolLaws.{by-test}
 use Rattle.scan.specs.declared.set.Set.{Set}
-use Rattle.scan.specs.Set.{mostConstraints, withRest}
+use Rattle.scan.specs.Set.{mostReads, mostOutputs, mostConstraints, withRest}
 use Rattle.header.specs.declared.numbers.Taken.{Taken}
 use Rattle.header.specs.Test.{Test, test}
 use Rattle.loader.specs.Load.{goingOn, andThen, goodIf, fieldAt, restWord, restGood, restAt, constraintsFrom, afterRest}
@@ -38,7 +38,7 @@ body-tells at n body =
     go true = ((refl, tt), tt)
     go false = inl (refl, refl, refl)
 
-module _ (file : List ℕ) (at : ℕ) (s : Set) (none : s .m ≡ 0) where
+module _ (file : List ℕ) (at : ℕ) (s : Set) (none : s .m ≡ 0) (few-reads : s .r ≤ mostReads) (few-outputs : s .n ≤ mostOutputs) where
   -- what its body tells and gives
   abbrev told : List ℕ → Taken
   told body = restGood (restWord body) (s .n)
@@ -51,7 +51,7 @@ module _ (file : List ℕ) (at : ℕ) (s : Set) (none : s .m ≡ 0) where
       → Tells (constraintsFrom file (suc mostConstraints) place (withRest s word)) (constraintsTests (s .r) (s .n) 0 (fieldsFrom most place (drop place file)))
   constraints-behind word most place n =
       subst (λ (m : ℕ). Tells (constraintsFrom file (suc mostConstraints) place (withRest s word)) (constraintsTests (s .r) (s .n) m (fieldsFrom most place (drop place file)))) none
-      (constraints-tell file (suc mostConstraints) most place (withRest s word) (omega arith) (omega arith) n)
+      (constraints-tell file (suc mostConstraints) most place (withRest s word) (omega arith) (omega arith) few-reads few-outputs n)
 
   -- the column where the field of the rest word stands
   abbrev given : Fields → List Test

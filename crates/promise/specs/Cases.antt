@@ -1,13 +1,14 @@
 -- Worked cases: the starred ones of document 01's "Tried by hand", the edge case as change request K2 has it, those for what they leave open, some of
--- them from the bytes of a file, and those of change requests K5, K6, K8 and K10.
+-- them from the bytes of a file, and those of change requests K5, K6, K8, K10 and K11.
 -- Assumes nothing.
-use Prim.Native.Nat.{ℕ}
+use Prim.Native.Nat.{ℕ, _+_, _^_}
 use mathlib.Core.Path.{_≡_}
 use mathlib.Core.Bool.{true, false, cond, _||_}
 use mathlib.Core.List.{List, [], _∷_, _++_, map}
 use lib.ListN.{take, replicate}
+use Rattle.words.specs.Loop.{joined, listed}
 use Rattle.words.specs.Word.{bit}
-use Rattle.scan.specs.declared.set.Kind.the-variants.{Sensor, PastSensor}
+use Rattle.scan.specs.declared.set.Kind.the-variants.{Sensor, PastOutput, PastSensor}
 use Rattle.scan.specs.declared.set.ReadPoint.{ReadPoint}
 use Rattle.scan.specs.declared.set.Constraint.{Constraint}
 use Rattle.scan.specs.declared.set.Set.{Set}
@@ -27,6 +28,7 @@ use Rattle.verdict.specs.Told.{verdictTold}
 use Rattle.loader.specs.Load.{loadOf}
 use Rattle.text.specs.Text.{textOf}
 use Rattle.loader.specs.Told.{loadTold}
+use Rattle.writer.specs.Write.{writeOf}
 use Rattle.setfile.specs.SampleFile.{fileP}
 use Rattle.promise.specs.Clash.{judgeUnnamed}
 
@@ -58,6 +60,8 @@ pub data Case : Type 0 where
   texts : Set → List ℕ → Case
   -- these bytes are loaded, and the rest word of their set is this
   rests : List ℕ → ℕ → Case
+  -- these bytes are loaded, and the file of their set is these bytes
+  rewritten : List ℕ → Case
 
 -- just as many bytes of scratch as are enough
 abbrev pub enough : Set → ℕ
@@ -82,6 +86,7 @@ answered (loads file told) = loadTold (loadOf file .answer) ∷ []
 answered (runs file calls told) = loadTold (loadOf file .answer) ∷ started (loadOf file .set) calls
 answered (texts s text) = textOf s ∷ []
 answered (rests file word) = loadTold (loadOf file .answer) ∷ (loadOf file .set .rest ∷ []) ∷ []
+answered (rewritten file) = loadTold (loadOf file .answer) ∷ writeOf (loadOf file .set) ∷ []
 
 -- what is to be answered
 abbrev pub expected : Case → List (List ℕ)
@@ -98,6 +103,7 @@ expected (loads file told) = told ∷ []
 expected (runs file calls told) = (0 ∷ []) ∷ (0 ∷ []) ∷ told
 expected (texts s text) = text ∷ []
 expected (rests file word) = (0 ∷ []) ∷ (word ∷ []) ∷ []
+expected (rewritten file) = (0 ∷ []) ∷ file ∷ []
 
 -- every case of a list is answered as it is to be
 abbrev pub AllAnswered : List Case → Type 0
@@ -525,4 +531,95 @@ clashCases =
     ∷ reckons (setOfAB [] (product 0 0 3 0 [] ∷ product 0 0 0 1 [] ∷ [])) 0 (0 ∷ 0 ∷ 1 ∷ [])
     -- a scan that meets a clash is answered by 33, and its state is kept: the past sensor word is that of the scan before
     ∷ scansOf (freshState clashing) (call 1 1 ∷ call 0 1 ∷ call 1 0 ∷ call 0 0 ∷ []) (no 33 ∷ sent 1 0 ∷ no 33 ∷ sent 0 0 ∷ [])
+    ∷ []
+
+-- ---- change request K11
+
+-- a file of r sensors a, b, c and so on, n outputs A, B and so on, these fields of constraints, and the end
+abbrev pub sensorsFile : ℕ → ℕ → List ℕ → List ℕ
+sensorsFile r n constraints =
+    (1 ∷ 0 ∷ 2 ∷ r ∷ n ∷ [])
+    ++ joined r (λ k. 2 ∷ 0 ∷ 3 ∷ 0 ∷ 0 ∷ (0x61 + k) ∷ []) ++ joined n (λ k. 3 ∷ 0 ∷ 1 ∷ (0x41 + k) ∷ []) ++ constraints ++ (5 ∷ 0 ∷ 0 ∷ [])
+
+-- a field 0x07 of one literal
+abbrev pub wideOne : ℕ → ℕ → ℕ → List ℕ
+wideOne a b c = 7 ∷ 0 ∷ 3 ∷ a ∷ b ∷ c ∷ []
+
+-- a field 0x07 of two
+abbrev pub wideTwo : ℕ → ℕ → ℕ → ℕ → ℕ → ℕ → List ℕ
+wideTwo a b c d e f = 7 ∷ 0 ∷ 6 ∷ a ∷ b ∷ c ∷ d ∷ e ∷ f ∷ []
+
+-- "sensor 16 and A"
+abbrev pub sensor16 : List ℕ
+sensor16 = wideTwo 0x00 16 0 0x40 0 0
+
+-- "A"
+abbrev pub onlyA : List ℕ
+onlyA = 4 ∷ 0 ∷ 2 ∷ 0x40 ∷ 0 ∷ []
+
+-- "sensor 0 and A"
+abbrev pub sensor0 : List ℕ
+sensor0 = 4 ∷ 0 ∷ 4 ∷ 0x00 ∷ 0 ∷ 0x40 ∷ 0 ∷ []
+
+-- no sensor of 20, and all of 4 outputs, each of another rank
+abbrev pub allNamed : List ℕ
+allNamed = (7 ∷ 0 ∷ 72 ∷ []) ++ joined 20 (λ k. 0x80 ∷ k ∷ 0 ∷ []) ++ joined 4 (λ k. 0x40 ∷ k ∷ (10 + k) ∷ [])
+
+-- the sensors a, b, c and so on
+abbrev pub sensorsTo : ℕ → List ReadPoint
+sensorsTo r = listed r (λ k. readOf Sensor ((0x61 + k) ∷ []))
+
+-- twenty sensors; "sensor 19 and A", "sensor 16, not sensor 3 and not B"
+abbrev pub twenty : Set
+twenty = setOf (sensorsTo 20) (nameA ∷ nameB ∷ []) (product (2 ^ 19) 0 1 0 [] ∷ product (2 ^ 16) 8 0 2 [] ∷ [])
+
+-- seventeen sensors; read point 17 is the past of sensor 16, and 18 that of A; "now, not past, A", "A was on, and B"
+abbrev pub edge16 : Set
+edge16 =
+    setOf (sensorsTo 17 ++ (readOf (PastSensor 16) (0x31 ∷ []) ∷ readOf (PastOutput 0) (0x32 ∷ []) ∷ [])) (nameA ∷ nameB ∷ [])
+    (product (2 ^ 16) (2 ^ 17) 1 0 [] ∷ product (2 ^ 18) 0 2 0 [] ∷ [])
+
+-- twenty sensors: files with both tags, each refusal of a field 0x07, and words above 65,535
+abbrev pub twentyCases : List Case
+twentyCases =
+    -- one high sensor; both tags in turn; the longest body, of 24 literals
+    rewritten (sensorsFile 17 1 sensor16)
+    ∷ rewritten (sensorsFile 17 1 (sensor0 ++ wideTwo 0x80 16 0 0xC0 0 9 ++ onlyA ++ sensor16))
+    ∷ rewritten (sensorsFile 20 4 allNamed)
+    -- 59: number 15 alone, in a set of 17 and of 16 sensors, and outputs alone; before 11, and behind 9 and 10
+    ∷ loads (sensorsFile 17 1 (wideTwo 0x00 15 0 0x40 0 0)) (59 ∷ 111 ∷ [])
+    ∷ loads (sensorsFile 16 1 (wideTwo 0x00 15 0 0x40 0 0)) (59 ∷ 105 ∷ [])
+    ∷ loads (sensorsFile 17 1 (onlyA ++ wideOne 0x40 0 0)) (59 ∷ 116 ∷ [])
+    ∷ loads (sensorsFile 17 1 (wideOne 0x00 15 0)) (59 ∷ 111 ∷ [])
+    ∷ loads (sensorsFile 17 1 (wideTwo 0x00 15 0 0x00 17 0)) (9 ∷ 111 ∷ [])
+    ∷ loads (sensorsFile 17 1 (wideTwo 0x00 15 0 0x00 14 0)) (10 ∷ 111 ∷ [])
+    -- 11: no output; 10: an output before a read point
+    ∷ loads (sensorsFile 17 1 (wideOne 0x00 16 0)) (11 ∷ 111 ∷ [])
+    ∷ loads (sensorsFile 17 1 (wideTwo 0x40 0 0 0x00 16 0)) (10 ∷ 111 ∷ [])
+    -- 9: bit 5 or bit 0 of the first byte, sensor 17 of 17, 16 of 16 and 32, output 1 of 1, a rank on a read point
+    ∷ loads (sensorsFile 17 1 (wideTwo 0x20 16 0 0x40 0 0)) (9 ∷ 111 ∷ [])
+    ∷ loads (sensorsFile 17 1 (wideTwo 0x00 16 0 0x41 0 0)) (9 ∷ 111 ∷ [])
+    ∷ loads (sensorsFile 17 1 (wideTwo 0x00 17 0 0x40 0 0)) (9 ∷ 111 ∷ [])
+    ∷ loads (sensorsFile 16 1 (wideTwo 0x00 16 0 0x40 0 0)) (9 ∷ 105 ∷ [])
+    ∷ loads (sensorsFile 17 1 (wideTwo 0x00 32 0 0x40 0 0)) (9 ∷ 111 ∷ [])
+    ∷ loads (sensorsFile 17 1 (wideTwo 0x00 16 0 0x40 1 0)) (9 ∷ 111 ∷ [])
+    ∷ loads (sensorsFile 17 1 (wideTwo 0x00 16 1 0x40 0 0)) (9 ∷ 111 ∷ [])
+    -- 4: two bytes, four, and one literal too many
+    ∷ loads (sensorsFile 17 1 (7 ∷ 0 ∷ 2 ∷ 0 ∷ 16 ∷ [])) (4 ∷ 111 ∷ [])
+    ∷ loads (sensorsFile 17 1 (7 ∷ 0 ∷ 4 ∷ 0 ∷ 16 ∷ 0 ∷ 0x40 ∷ [])) (4 ∷ 111 ∷ [])
+    ∷ loads (sensorsFile 17 1 (7 ∷ 0 ∷ 75 ∷ replicate 75 0)) (4 ∷ 111 ∷ [])
+    -- 3: a 65th constraint, of the other tag; 2: 0x07 before the outputs
+    ∷ loads (sensorsFile 17 1 (joined 64 (λ k. sensor16) ++ onlyA)) (3 ∷ 687 ∷ [])
+    ∷ loads (sensorsFile 17 1 (joined 64 (λ k. onlyA) ++ sensor16)) (3 ∷ 431 ∷ [])
+    ∷ loads ((1 ∷ 0 ∷ 2 ∷ 0 ∷ 1 ∷ []) ++ wideOne 0x00 16 0) (2 ∷ 5 ∷ [])
+    -- counts: 20 and 5, 21 and 1
+    ∷ loads (sensorsFile 20 5 []) (5 ∷ 0 ∷ [])
+    ∷ loads (sensorsFile 21 1 []) (5 ∷ 0 ∷ [])
+    -- sensor words: 2^19 and 2^16 are allowed, and 2^20 is not; what is 2^16 more is not the same
+    ∷ scansOf (freshState twenty) (call (2 ^ 19) 3 ∷ call (2 ^ 19 + 2 ^ 16) 1 ∷ call (2 ^ 16) 0 ∷ call (2 ^ 16 + 8) 0 ∷ call (2 ^ 20) 0 ∷ call 0 3 ∷ [])
+    (sent 2 0 ∷ sent 2 0 ∷ sent 2 0 ∷ sent 0 0 ∷ no 31 ∷ sent 3 0 ∷ [])
+    ∷ reckons twenty (2 ^ 19 + 2 ^ 16) (0 ∷ 1 ∷ 2 ∷ [])
+    ∷ reckons twenty 8 (0 ∷ 0 ∷ 0 ∷ [])
+    -- pasts of read points above 15: an edge of sensor 16, and B off behind A
+    ∷ scansOf (freshState edge16) (call 0 1 ∷ call (2 ^ 16) 3 ∷ call (2 ^ 16) 3 ∷ call (2 ^ 17) 0 ∷ []) (sent 1 0 ∷ sent 0 0 ∷ sent 3 0 ∷ no 31 ∷ [])
     ∷ []

@@ -21,7 +21,7 @@ missing at = test 1 at true ∷ []
 abbrev pub within : ℕ → ℕ → ℕ → Bool
 within low high x = leb low x && leb x high
 
--- a tag's shortest and longest body; literals have two bytes each
+-- a tag's shortest and longest body; literals have two bytes each in 0x04 and three in 0x07
 unfoldable pub lengthFits : ℕ → ℕ → Bool
 lengthFits tag len =
     (eqb tag 0x01 && eqb len 2)
@@ -29,16 +29,17 @@ lengthFits tag len =
     || ((eqb tag 0x03 && within 1 8 len)
     || ((eqb tag 0x04 && (within 2 48 len && eqb (len % 2) 0))
     || ((eqb tag 0x05 && eqb len 0)
-    || (eqb tag 0x06 && eqb len 2)))))
+    || ((eqb tag 0x06 && eqb len 2)
+    || (eqb tag 0x07 && (within 3 72 len && eqb (len % 3) 0)))))))
 
 -- 1 header or body runs past the end; 2 tag not due; 3 a 65th constraint; 4 length not in the table
 unfoldable pub headTests : ℕ → Bool → Bool → ℕ → List ℕ → List Test
 headTests at due full tag body =
     test 1 at false ∷ test 2 at (not due) ∷ test 3 at full ∷ test 4 at (not (lengthFits tag (length body))) ∷ []
 
--- r at most 16, n 1 to 12, r + n at most 24
+-- r at most 20, n 1 to 12, r + n at most 24
 unfoldable pub countsFit : ℕ → ℕ → Bool
-countsFit r n = leb r 16 && (within 1 12 n && leb (r + n) 24)
+countsFit r n = leb r 20 && (within 1 12 n && leb (r + n) 24)
 
 -- kind 0 with index 0; kind 1 and the number of one of n outputs; kind 2 and the number of an earlier read point of kind 0
 unfoldable pub kindFits : ℕ → List ℕ → ℕ → ℕ → Bool
@@ -76,31 +77,60 @@ readTests at n kinds names body =
 unfoldable pub restFits : ℕ → List ℕ → Bool
 restFits n body = let word = 256 * getD body 0 0 + getD body 1 0 in ltb 0 word && ltb word (2 ^ n)
 
--- a literal's first byte has bit 6
-abbrev pub isOutputByte : ℕ → Bool
-isOutputByte b = eqb (b / 64 % 2) 1
+-- a literal as its field's bytes give it: bits 7 and 6 and whether the bits are zero that have to be, the point's number, and the rank
+pub record Given : Type 0 where
+  pub first : ℕ
+  pub clear : Bool
+  pub number : ℕ
+  pub rank : ℕ
 
--- bits 5 and 4 zero; an output's number below n; a read point's below r, and its rank 0
-unfoldable pub literalFits : ℕ → ℕ → ℕ → ℕ → Bool
-literalFits r n b rank = eqb (b / 16 % 4) 0 && cond (isOutputByte b) (ltb (b % 16) n) (ltb (b % 16) r && eqb rank 0)
+-- the literals of 0x04: in the first byte bits 5 and 4 are zero and the low four bits are the number; the second is the rank
+unfoldable pub inTwos : List ℕ → List Given
+inTwos [] = []
+inTwos (b ∷ []) = []
+inTwos (b ∷ rank ∷ rest) = record { first = b; clear = eqb (b / 16 % 4) 0; number = b % 16; rank = rank } ∷ inTwos rest
 
--- for each literal 9 (bits 5 or 4 set, number too large, rank on a read point), then 10 (not rising): without bit 7, the sign, its first byte is
--- below `next`, which is above the one before it
-unfoldable pub literalTests : ℕ → ℕ → ℕ → ℕ → List ℕ → List Test
+-- the literals of 0x07: the first byte has no bit but 7 and 6; the second is the number, and the third the rank
+unfoldable pub inThrees : List ℕ → List Given
+inThrees [] = []
+inThrees (b ∷ []) = []
+inThrees (b ∷ number ∷ []) = []
+inThrees (b ∷ number ∷ rank ∷ rest) = record { first = b; clear = eqb (b % 64) 0; number = number; rank = rank } ∷ inThrees rest
+
+-- bit 6 of the first byte
+abbrev pub isOutputLiteral : Given → Bool
+isOutputLiteral l = eqb (l .first / 64 % 2) 1
+
+-- the bits zero that have to be; an output's number below n; a read point's below r, and its rank 0
+unfoldable pub literalFits : ℕ → ℕ → Given → Bool
+literalFits r n l = l .clear && cond (isOutputLiteral l) (ltb (l .number) n) (ltb (l .number) r && eqb (l .rank) 0)
+
+-- in the order of literals, signs ignored: read points by number, of which there are fewer than 64, then outputs by number
+abbrev pub inOrder : Given → ℕ
+inOrder l = 64 * (l .first / 64 % 2) + l .number
+
+-- for each literal 9 (other bits set, number too large, rank on a read point), then 10 (not rising): it is below `next`, which is above the one before it
+unfoldable pub literalTests : ℕ → ℕ → ℕ → ℕ → List Given → List Test
 literalTests at r n next [] = []
-literalTests at r n next (b ∷ []) = []
-literalTests at r n next (b ∷ rank ∷ rest) =
-    test 9 at (not (literalFits r n b rank)) ∷ test 10 at (ltb (b % 128) next) ∷ literalTests at r n (b % 128 + 1) rest
+literalTests at r n next (l ∷ rest) =
+    test 9 at (not (literalFits r n l)) ∷ test 10 at (ltb (inOrder l) next) ∷ literalTests at r n (inOrder l + 1) rest
 
 -- one of the literals is an output's
-unfoldable pub namesOutput : List ℕ → Bool
+unfoldable pub namesOutput : List Given → Bool
 namesOutput [] = false
-namesOutput (b ∷ []) = false
-namesOutput (b ∷ rank ∷ rest) = isOutputByte b || namesOutput rest
+namesOutput (l ∷ rest) = isOutputLiteral l || namesOutput rest
 
--- a constraint's body: its literals, then 11 no output literal
-unfoldable pub bodyTests : ℕ → ℕ → ℕ → List ℕ → List Test
-bodyTests at r n body = literalTests at r n 0 body ++ (test 11 at (not (namesOutput body)) ∷ [])
+-- one of the numbers is above 15
+unfoldable pub numberAbove15 : List Given → Bool
+numberAbove15 [] = false
+numberAbove15 (l ∷ rest) = ltb 15 (l .number) || numberAbove15 rest
+
+-- a constraint's body: its literals; in 0x07 then 59 no number above 15; then 11 no output literal
+unfoldable pub bodyTests : ℕ → ℕ → ℕ → ℕ → List ℕ → List Test
+bodyTests at r n tag body =
+    let twos = literalTests at r n 0 (inTwos body) ++ (test 11 at (not (namesOutput (inTwos body))) ∷ []) in
+    let threes = literalTests at r n 0 (inThrees body) ++ (test 59 at (not (numberAbove15 (inThrees body))) ∷ test 11 at (not (namesOutput (inThrees body))) ∷ []) in
+    cond (eqb tag 0x07) threes twos
 
 -- behind 0x05, 12: bytes follow, with the offset of the first
 unfoldable pub endTests : Fields → List Test
@@ -108,15 +138,16 @@ endTests (ends at) = []
 endTests (cut at) = test 12 at true ∷ []
 endTests (field at tag body rest) = test 12 at true ∷ []
 
--- ---- field after field: one 0x01; r of 0x02; n of 0x03; at most one 0x06; m of 0x04; one 0x05; nothing after
+-- ---- field after field: one 0x01; r of 0x02; n of 0x03; at most one 0x06; m of 0x04 or 0x07; one 0x05; nothing after
 
 -- behind m constraints: one more, or the end
 unfoldable pub constraintsTests : ℕ → ℕ → ℕ → Fields → List Test
 constraintsTests r n m (ends at) = missing at
 constraintsTests r n m (cut at) = missing at
 constraintsTests r n m (field at tag body rest) =
-    let more = bodyTests at r n body ++ constraintsTests r n (m + 1) rest in
-    headTests at (eqb tag 0x04 || eqb tag 0x05) (eqb tag 0x04 && leb 64 m) tag body ++ cond (eqb tag 0x05) (endTests rest) more
+    let more = bodyTests at r n tag body ++ constraintsTests r n (m + 1) rest in
+    let one = eqb tag 0x04 || eqb tag 0x07 in
+    headTests at (one || eqb tag 0x05) (one && leb 64 m) tag body ++ cond (eqb tag 0x05) (endTests rest) more
 
 -- behind the outputs: the rest word, 54 where it is 0 or has bits outside n, if a field of its tag stands here; and then the constraints
 unfoldable pub restTests : ℕ → ℕ → Fields → List Test

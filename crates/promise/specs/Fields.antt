@@ -1,7 +1,7 @@
 -- A file in fields, by document 01's sentence "Fields: one-byte tag, two-byte length (high byte first), body" alone. No code computes this.
 -- Assumes nothing.
 use Prim.Native.Nat.{ℕ, zero, suc, _+_, _*_}
-use mathlib.Core.Bool.{Bool, true, false, cond}
+use mathlib.Core.Bool.{Bool, true, false, cond, _||_}
 use mathlib.Core.List.{List, [], _∷_}
 use lib.Dec.{eqb, ltb}
 use lib.ListN.{length, getD, take, drop}
@@ -49,3 +49,16 @@ unfoldable pub bodies : ℕ → Fields → List (List ℕ)
 bodies wanted (ends at) = []
 bodies wanted (cut at) = []
 bodies wanted (field at tag body rest) = let more = bodies wanted rest in cond (eqb tag wanted) (body ∷ more) more
+
+-- the tag and the body of a field
+pub record TagBody : Type 0 where
+  pub tag : ℕ
+  pub body : List ℕ
+
+-- the fields of constraints, of tag 0x04 or 0x07, in order
+unfoldable pub constraintsIn : Fields → List TagBody
+constraintsIn (ends at) = []
+constraintsIn (cut at) = []
+constraintsIn (field at tag body rest) =
+    let more = constraintsIn rest in
+    cond (eqb tag 0x04 || eqb tag 0x07) (record { tag = tag; body = body } ∷ more) more

@@ -14,6 +14,7 @@ pub mod Scans
 pub mod NeverTold
 pub mod PowerUp
 pub mod RestWord
+pub mod FilesOfToday
 pub mod OneWord
 pub mod Promise
 pub mod Cases

@@ -80,10 +80,10 @@ pub record PlacesMean (s : Set) : Type 0 where
   pub read-name : (k : ℕ) → k < s .r → readPoint (s .reads) k .name ≡ readName s k ++ replicate (8 - length (readName s k)) 0
   pub output-name : (j : ℕ) → j < s .n → outputPoint (s .outputs) j .name ≡ outputName s j ++ replicate (8 - length (outputName s j)) 0
   -- there are sixteen places for read points, twelve for outputs, sixty-four for constraints and twelve for a constraint's ranks
-  pub places : (length (s .reads) ≡ 16) × (length (s .outputs) ≡ 12) × (length (s .constraints) ≡ 64)
+  pub places : (length (s .reads) ≡ 20) × (length (s .outputs) ≡ 12) × (length (s .constraints) ≡ 64)
   pub rank-places : (i : ℕ) → i < s .m → length (constraint s i .ranks) ≡ 12
   -- places beyond the counts are zero, and the rank of an output that a constraint does not name
-  pub read-beyond : (k : ℕ) → s .r ≤ k → k < 16 → readPoint (s .reads) k ≡ allZeroRead
+  pub read-beyond : (k : ℕ) → s .r ≤ k → k < 20 → readPoint (s .reads) k ≡ allZeroRead
   pub output-beyond : (j : ℕ) → s .n ≤ j → j < 12 → outputPoint (s .outputs) j ≡ allZeroOutput
   pub constraint-beyond : (i : ℕ) → s .m ≤ i → i < 64 → constraint s i ≡ allZeroConstraint
   pub rank-unnamed : (i : ℕ) → i < s .m → (k : ℕ) → ¬ NamesOutput (constraint s i) k → rank (constraint s i) k ≡ 0

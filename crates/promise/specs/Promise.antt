@@ -47,6 +47,7 @@ use Rattle.promise.specs.Scans.{SendsDue, EveryRight, StateOfList}
 use Rattle.promise.specs.NeverTold.{NeverTold}
 use Rattle.promise.specs.PowerUp.{PowerUp}
 use Rattle.promise.specs.RestWord.{RestWord}
+use Rattle.promise.specs.FilesOfToday.{FilesOfToday}
 use Rattle.promise.specs.OneWord.{ByActive}
 
 -- ---- demand 1: what is turned down, by which number, and what is left as it was
@@ -151,6 +152,8 @@ pub record Demand2 : Type 0 where
   -- writing a loaded file, into a buffer that is long enough, gives that file
   pub write-loaded : (file buf : List ℕ) → Bytes file → loadTold (loadOf file .answer) ≡ 0 ∷ [] → length file ≤ length buf
       → (writeTold (writeAnswer (loadOf file .set) (length buf)) ≡ 0 ∷ length file ∷ []) × (bufferAfter (loadOf file .set) buf ≡ file ++ drop (length file) buf)
+  -- files of today load to the same sets: with at most sixteen read points the file of a set is what document 01's rule wrote
+  pub files-of-today : (s : Set) → wellFormed s ≡ true → s .r ≤ 16 → FilesOfToday s
   -- two files that load to one set are one file
   pub one-file : (f g : List ℕ) → Bytes f → Bytes g → loadTold (loadOf f .answer) ≡ 0 ∷ [] → loadTold (loadOf g .answer) ≡ 0 ∷ []
       → loadOf f .set ≡ loadOf g .set → f ≡ g

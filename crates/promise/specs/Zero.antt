@@ -29,7 +29,7 @@ allZeroSet = record {
   n = 0;
   m = 0;
   rest = 0;
-  reads = replicate 16 allZeroRead;
+  reads = replicate 20 allZeroRead;
   outputs = replicate 12 allZeroOutput;
   constraints = replicate 64 allZeroConstraint;
 }

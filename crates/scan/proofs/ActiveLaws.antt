@@ -16,7 +16,7 @@ use Rattle.words.proofs.LoopLaws.{bit-word, word-lt, word-cong, gather-cong}
 use Rattle.scan.specs.declared.set.Constraint.{Constraint}
 use Rattle.scan.specs.declared.set.Set.{Set}
 use Rattle.scan.specs.declared.columns.Columns.{Columns}
-use Rattle.scan.specs.Set.{constraint}
+use Rattle.scan.specs.Set.{mostReads, constraint}
 use Rattle.scan.specs.Shape.{wellFormed}
 use Rattle.scan.specs.Constraint.{readsTrue, outsTrue, isTrue, simple, combined}
 use Rattle.scan.specs.Active.{isActive, activeOf}
@@ -56,8 +56,8 @@ module _ (s : Set) (ok : wellFormed s ≡ true) where
   unfolding columnsOf simpleAt
   simple-bit i h = bit-word i (counted s) (simpleAt s) (subst (λ (m : ℕ). i < m) (sym counted-all) h)
 
-  narrow : (x : ℕ) → x < 2 ^ s .r → x < 2 ^ 16
-  narrow x h = lt-of-lt-of-le h (pow-mono {i = s .r} {j = 16} (counts s ok .r-le))
+  narrow : (x : ℕ) → x < 2 ^ s .r → x < 2 ^ mostReads
+  narrow x h = lt-of-lt-of-le h (pow-mono {i = s .r} {j = mostReads} (counts s ok .r-le))
 
   -- the mask that the lists of read literals give
   pub active-is : (w : ℕ) → activeBy (columnsOf s .«read_plain») (columnsOf s .«read_named») (s .m) w ≡ activeOf s w
@@ -67,7 +67,7 @@ module _ (s : Set) (ok : wellFormed s ≡ true) where
       ∙ word-cong (s .m) _ _ (λ i h.
       let c = masks s ok i h in
       ap₂ (λ (named plain : ℕ). eqb (bitAnd w named) plain) (column-at _ i h) (column-at _ i h)
-      ∙ sym (meets-once 16 (constraint s i .«read_plain») (constraint s i .«read_negated») w (narrow _ (c .read-plain)) (narrow _ (c .read-negated)) (c .read-once)))
+      ∙ sym (meets-once mostReads (constraint s i .«read_plain») (constraint s i .«read_negated») w (narrow _ (c .read-plain)) (narrow _ (c .read-negated)) (c .read-once)))
 
   -- what the code makes of the literals of the set and a read word is the mask
   pub made-active : (w : ℕ) (l : Columns) → l ≡ columnsOf s → (active : ℕ) → active ≡ activeBy (l .«read_plain») (l .«read_named») (s .m) w

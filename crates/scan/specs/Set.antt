@@ -17,7 +17,7 @@ use Rattle.scan.specs.declared.set.State.{State}
 
 -- the most read points of a set
 abbrev pub mostReads : ℕ
-mostReads = 16
+mostReads = 20
 
 -- the most outputs
 abbrev pub mostOutputs : ℕ

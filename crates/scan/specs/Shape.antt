@@ -20,11 +20,11 @@ use Rattle.scan.specs.Names.{nameOk, nameZero, firstRead, firstOutput}
 
 -- ---- counts and lengths
 
--- r at most 16, n 1 to 12, r + n at most 24, m at most 64
+-- r at most 20, n 1 to 12, r + n at most 24, m at most 64
 unfoldable pub countTests : ℕ → ℕ → ℕ → List Bool
 countTests r n m = leb r mostReads ∷ leb 1 n ∷ leb n mostOutputs ∷ leb (r + n) mostPoints ∷ leb m mostConstraints ∷ []
 
--- sixteen places for read points, twelve for outputs, sixty-four for constraints
+-- twenty places for read points, twelve for outputs, sixty-four for constraints
 unfoldable pub lengthTests : Set → List Bool
 lengthTests s =
     eqb (length (s .reads)) mostReads ∷ eqb (length (s .outputs)) mostOutputs ∷ eqb (length (s .constraints)) mostConstraints ∷ []

@@ -3,7 +3,7 @@ ghost use mathlib.Core.Path.{_≡_};
 ghost use Rattle.scan.specs.Set.{zeroRead, zeroOutput, zeroConstraint, zeroSet};
 
 // The most read points, outputs, read points and outputs together, and constraints; the byte places of a name.
-pub const MOST_READS: usize = 16;
+pub const MOST_READS: usize = 20;
 
 pub const MOST_OUTPUTS: usize = 12;
 

@@ -8,7 +8,7 @@ use Prim.Native.Nat.{ℕ, suc, _+_, _-_, _*_, _%_, _≤_, _<_}
 use native.Mathlib.Omega.{arith}
 use lib.Dec.{ltb, leb, eqb}
 use lib.ListN.{length, drop, set, length-append, length-drop, drop-of-length-le}
-use borrow.Author.Tests.{le-leb, lt-leb, leb-false, eqb-true, eq-eqb, le-ltb, ltb-false}
+use borrow.Author.Tests.{le-leb, lt-leb, leb-false, eqb-true, eqb-false, eq-eqb, le-ltb, ltb-false}
 use Rattle.words.specs.Word.{bit}
 use Rattle.words.specs.Loop.{every}
 use Rattle.words.proofs.BitLaws.{bit-above}
@@ -26,10 +26,11 @@ use Rattle.header.specs.declared.numbers.Taken.{Taken}
 use Rattle.header.specs.declared.numbers.Taken.the-variants.{Refused as Denied, Good}
 use Rattle.loader.specs.declared.loader.Progress.the-variants.{At}
 use Rattle.header.specs.Bytes.{Bytes}
+use Rattle.header.specs.Tag.{isConstraint, isWide, tagBy, literalSize, namesHigh}
 use Rattle.header.specs.Header.{headerOf, bodyOf, fitsTable}
-use Rattle.literal.specs.Literal.{narrows, goodLiterals, literalsFrom, literalsOf}
+use Rattle.literal.specs.Literal.{narrows, wides, goodLiterals, literalsFrom, literalsOf}
 use Rattle.loader.specs.Load.{refusal, goingOn, andThen, fieldDone, withConstraint, constraintGiven, constraintAt, endAt, constraintsGiven, constraintsFrom}
-use Rattle.writer.specs.Write.{fieldOf, literalBody}
+use Rattle.writer.specs.Write.{fieldOf, literalsBy, constraintTag, literalBody}
 use Rattle.setfile.proofs.LiteralPlaces.{mask}
 use Rattle.setfile.proofs.BodyPlaces.{upTo, worth, saidIf, saidOf, allSaid, by-kind, upto-long}
 use Rattle.setfile.proofs.LiteralBytes.{bytes-long, body-said}
@@ -37,7 +38,8 @@ use Rattle.setfile.proofs.OneLiteral.{size}
 use Rattle.setfile.proofs.ConstraintBits.{Fine, fine}
 use Rattle.setfile.proofs.LiteralsBack.{literals-back}
 use Rattle.setfile.proofs.LiteralsTaken.{literals-taken}
-use Rattle.header.proofs.HeaderLaws.{table-bounds, due-is}
+use Rattle.header.proofs.TagLaws.{tagged}
+use Rattle.header.proofs.HeaderLaws.{table-bounds, constraint-due}
 use Rattle.setfile.proofs.Fields.{body-back, field-back, found}
 use Rattle.setfile.proofs.PointKinds.{outputsBase}
 use Rattle.setfile.proofs.FieldRuns.{Run, Moved}
@@ -50,31 +52,19 @@ one-said o true q k x = omega arith
 one-said o false true k x = omega arith
 one-said o false false k x = omega arith
 
-no-literals : (r n : ℕ) → literalsOf r n [] .taken ≡ Good → ⊥
-unfolding literalsFrom narrows
-no-literals r n e = let z : _≡_ {A = ℕ} 0 1 = cc in omega arith
+-- a body that gives a constraint has bytes
+no-literals : (wide : Bool) (r n : ℕ) → literalsOf wide r n [] .taken ≡ Good → ⊥
+unfolding literalsFrom narrows wides namesHigh
+no-literals true r n e = let z : _≡_ {A = ℕ} 0 1 = cc in omega arith
+no-literals false r n e = let z : _≡_ {A = ℕ} 0 1 = cc in omega arith
 
-not-empty : (r n : ℕ) (c : Constraint) (body : List ℕ) → literalsOf r n body ≡ goodLiterals c → 1 ≤ length body
-not-empty r n c [] e = absurd (no-literals r n (ap (λ (x : Literals). x .taken) e))
-not-empty r n c (x ∷ xs) e = omega arith
+not-empty : (wide : Bool) (r n : ℕ) (c : Constraint) (body : List ℕ) → literalsOf wide r n body ≡ goodLiterals c → 1 ≤ length body
+not-empty wide r n c [] e = absurd (no-literals wide r n (ap (λ (x : Literals). x .taken) e))
+not-empty wide r n c (x ∷ xs) e = omega arith
 
 -- A well-formed constraint's body has a length of the table.
-pub body-fits : (r n : ℕ) (c : Constraint) → r ≤ mostReads → n ≤ mostOutputs → r + n ≤ mostPoints → Masks r n c → fitsTable 4 (length (literalBody c)) ≡ true
-body-fits r n c hr hn hs m =
-    let ls = allSaid c in
-    let reads = upTo mostReads (saidOf c false) in
-    let outs = upTo mostOutputs (saidOf c true) in
-    let a = few false mostReads in
-    let b = few true mostOutputs in
-    let l = length-append reads outs in
-    let k : length ls ≡ length (reads ++ outs) = ap length (by-kind c) in
-    let w : length (literalBody c) ≡ 2 * length ls = ap length (body-said c) ∙ bytes-long ls in
-    let some : 1 ≤ length (literalBody c) = not-empty r n c (literalBody c) (literals-back r n c hr hn m) in
-    simp (
-      le-leb 2 (length (literalBody c)) (omega (arith, w, some)),
-      le-leb (length (literalBody c)) 48 (omega (arith, w, k, l, a, b)),
-      eq-eqb (length (literalBody c) % 2) 0 (omega (arith, w)),
-    )
+pub body-fits : (r n : ℕ) (c : Constraint) → r ≤ mostReads → n ≤ mostOutputs → r + n ≤ mostPoints → Masks r n c → fitsTable (constraintTag c) (length (literalBody c)) ≡ true
+body-fits r n c hr hn hs m = go (namesHigh c) (ap length (body-said (namesHigh c) c) ∙ bytes-long (namesHigh c) (allSaid c)) (not-empty (namesHigh c) r n c (literalBody c) (literals-back r n c hr hn m))
   where
     f : Fine r n c
     f = fine r n c m
@@ -83,6 +73,23 @@ body-fits r n c hr hn hs m =
     few o N =
         upto-long (saidOf c o) (size r n o) N (λ k. one-said o (bit k (mask o false c)) (bit k (mask o true c)) k (worth o c k))
         (λ k h. ap₂ (λ (p q : Bool). saidIf o p q k (worth o c k)) (bit-above (size r n o) k (mask o false c) (f .small o false) h) (bit-above (size r n o) k (mask o true c) (f .small o true) h))
+
+    -- no more literals than points
+    most : length (allSaid c) ≤ mostPoints
+    most =
+        let a = few false mostReads in
+        let b = few true mostOutputs in
+        let l = length-append (upTo mostReads (saidOf c false)) (upTo mostOutputs (saidOf c true)) in
+        let k : length (allSaid c) ≡ length (upTo mostReads (saidOf c false) ++ upTo mostOutputs (saidOf c true)) = ap length (by-kind c) in
+        omega (arith, k, l, a, b)
+
+    go : (wide : Bool) → length (literalsBy wide c) ≡ literalSize wide * length (allSaid c) → 1 ≤ length (literalsBy wide c) → fitsTable (tagBy wide) (length (literalsBy wide c)) ≡ true
+    go true w some =
+        let len = length (literalsBy true c) in
+        simp (le-leb 3 len (omega (arith, w, some)), le-leb len 72 (omega (arith, w, most)), eq-eqb (len % 3) 0 (omega (arith, w)))
+    go false w some =
+        let len = length (literalsBy false c) in
+        simp (le-leb 2 len (omega (arith, w, some)), le-leb len 48 (omega (arith, w, most)), eq-eqb (len % 2) 0 (omega (arith, w)))
 
 -- ---- one field
 
@@ -97,7 +104,7 @@ constraintsBase r n reads outputs word k l = withCounts (withConstraints (restBa
 -- fields of constraints; a constraint fits whichever there are before it
 abbrev pub constraintRun : List ℕ → ℕ → ℕ → List ReadPoint → List OutputPoint → ℕ → Run Constraint
 constraintRun file r n reads outputs word = record {
-  tag = 4;
+  tag = constraintTag;
   body = literalBody;
   places = mostConstraints;
   blank = zeroConstraint;
@@ -117,18 +124,23 @@ module _ (file : List ℕ) (r n : ℕ) (hr : r ≤ mostReads) (hn : n ≤ mostOu
   base = constraintsBase r n reads outputs word
 
   -- A field whose body is that of a well-formed constraint is taken.
-  pub constraint-step : (left k at : ℕ) (l : List Constraint) (c : Constraint) (rest : List ℕ) → k < mostConstraints → every (constraintTests r n c) ≡ true → drop at file ≡ fieldOf 4 (literalBody c) ++ rest
+  pub constraint-step : (left k at : ℕ) (l : List Constraint) (c : Constraint) (rest : List ℕ) → k < mostConstraints → every (constraintTests r n c) ≡ true
+      → drop at file ≡ fieldOf (constraintTag c) (literalBody c) ++ rest
       → constraintsFrom file (suc left) at (base k l) ≡ constraintsFrom file left (at + 3 + length (literalBody c)) (base (k + 1) (set l k c))
   unfolding constraintsFrom constraintAt
   constraint-step left k at l c rest h f e =
+      let tag = constraintTag c in
       let body = literalBody c in
       let len = length body in
       let m = constraint-masks r n c f in
       let t = literals-back r n c hr hn m in
-      let hd : headerOf (drop at file) 4 k ≡ Field 4 len = ap (λ (s : List ℕ). headerOf s 4 k) e ∙ field-back 4 body rest 4 k refl (lt-leb mostConstraints k h) (body-fits r n c hr hn hs m) in
-      let bd : bodyOf (drop at file) len ≡ body = ap (λ (s : List ℕ). bodyOf s len) e ∙ body-back 4 body rest in
+      let w = tagged (namesHigh c) in
+      let few : (isConstraint tag && leb mostConstraints k) ≡ false = ap₂ _&&_ (w .constraint) (lt-leb mostConstraints k h) in
+      let hd : headerOf (drop at file) 4 k ≡ Field tag len = ap (λ (s : List ℕ). headerOf s 4 k) e ∙ field-back tag body rest 4 k (w .due) few (body-fits r n c hr hn hs m) in
+      let bd : bodyOf (drop at file) len ≡ body = ap (λ (s : List ℕ). bodyOf s len) e ∙ body-back tag body rest in
       ap (constraintsGiven file at (base k l) (constraintsFrom file left)) hd
-      ∙ ap (λ (x : Literals). andThen (constraintGiven at len (base k l) x) (constraintsFrom file left)) (ap (literalsOf r n) bd ∙ t)
+      ∙ ap (λ (b : Bool). cond b (endAt file at (base k l)) (andThen (constraintAt file at tag len (base k l)) (constraintsFrom file left))) (w .not-end)
+      ∙ ap (λ (x : Literals). andThen (constraintGiven at len (base k l) x) (constraintsFrom file left)) (ap₂ (λ (b : Bool). literalsOf b r n) (w .is-wide) bd ∙ t)
 
   -- The end of the file is found.
   pub end-back : (left k at : ℕ) (l : List Constraint) → drop at file ≡ fieldOf 5 [] → constraintsFrom file (suc left) at (base k l) ≡ goingOn (length file) (base k l)
@@ -171,32 +183,33 @@ module _ (file : List ℕ) (r n : ℕ) (hr : r ≤ mostReads) (hn : n ≤ mostOu
           ∙ ap (λ (y : List ℕ). fieldOf 5 [] ++ y) (drop-of-length-le file {i = at + 3 + len} (omega arith)) in
           (here, omega arith, end-back left k at l here)
 
-      by-taken : (tag len : ℕ) → headerOf (drop at file) 4 k ≡ Field tag len → eqb tag 5 ≡ false → (t : Taken) → literalsOf r n (bodyOf (drop at file) len) .taken ≡ t
-          → andThen (fieldDone at len t (withConstraint (base k l) (literalsOf r n (bodyOf (drop at file) len) .made))) (constraintsFrom file left) .progress ≡ At last → Move
+      by-taken : (tag len : ℕ) → headerOf (drop at file) 4 k ≡ Field tag len → eqb tag 5 ≡ false → (t : Taken) → literalsOf (isWide tag) r n (bodyOf (drop at file) len) .taken ≡ t
+          → andThen (fieldDone at len t (withConstraint (base k l) (literalsOf (isWide tag) r n (bodyOf (drop at file) len) .made))) (constraintsFrom file left) .progress ≡ At last → Move
       by-taken tag len hd s (Denied number) t u = let z : _≡_ {A = ℕ} 0 1 = cc in absurd (omega arith)
       by-taken tag len hd s Good t u =
           let f = found file at 4 k tag len bytes hd in
           let b = bodyOf (drop at file) len in
-          let c = literalsOf r n b .made in
-          let four : tag ≡ 4 = due-is 4 tag s (f .awaited) in
-          let g = literals-taken r n b hr hn (f .bytes) t in
-          let few : (eqb 4 4 && leb mostConstraints k) ≡ false = ap (λ (x : ℕ). eqb x 4 && leb mostConstraints k) (sym four) ∙ f .few in
+          let wide = isWide tag in
+          let c = literalsOf wide r n b .made in
+          let same : tag ≡ tagBy wide = constraint-due tag (eqb-false tag 5 s) (f .awaited) in
+          let g = literals-taken wide r n b hr hn (f .bytes) t in
+          let few : leb mostConstraints k ≡ false = ap (λ (x : Bool). x && leb mostConstraints k) (sym (ap isConstraint same ∙ tagged wide .constraint)) ∙ f .few in
           record {
             point = c;
             after = at + 3 + len;
             inside = leb-false mostConstraints k few;
             fit = g .0;
-            field = f .whole ∙ ap₂ (λ (x : ℕ) (y : List ℕ). fieldOf x y ++ drop (at + 3 + len) file) four (sym (g .1));
+            field = f .whole ∙ ap₂ (λ (x : ℕ) (y : List ℕ). fieldOf x y ++ drop (at + 3 + len) file) (same ∙ ap tagBy (sym (g .1))) (sym (g .2));
             on =
                 opens (Field tag len) hd
-                ∙ ap (λ (x : Bool). cond x (endAt file at (base k l)) (andThen (fieldDone at len (literalsOf r n b .taken) (withConstraint (base k l) c)) (constraintsFrom file left))) s
+                ∙ ap (λ (x : Bool). cond x (endAt file at (base k l)) (andThen (fieldDone at len (literalsOf wide r n b .taken) (withConstraint (base k l) c)) (constraintsFrom file left))) s
                 ∙ ap (λ (x : Taken). andThen (fieldDone at len x (withConstraint (base k l) c)) (constraintsFrom file left)) t;
           }
 
       by-tag : (tag len : ℕ) → headerOf (drop at file) 4 k ≡ Field tag len → (b : Bool) → eqb tag 5 ≡ b
-          → cond b (endAt file at (base k l)) (andThen (constraintAt file at len (base k l)) (constraintsFrom file left)) .progress ≡ At last → EndHere file base (suc left) k at l ⊎ Move
+          → cond b (endAt file at (base k l)) (andThen (constraintAt file at tag len (base k l)) (constraintsFrom file left)) .progress ≡ At last → EndHere file base (suc left) k at l ⊎ Move
       by-tag tag len hd true s u = inl (by-end tag len hd s (ltb (at + 3) (length file)) refl u)
-      by-tag tag len hd false s u = inr (by-taken tag len hd s (literalsOf r n (bodyOf (drop at file) len) .taken) refl u)
+      by-tag tag len hd false s u = inr (by-taken tag len hd s (literalsOf (isWide tag) r n (bodyOf (drop at file) len) .taken) refl u)
 
       by-header : (x : Header) → headerOf (drop at file) 4 k ≡ x → constraintsGiven file at (base k l) (constraintsFrom file left) x .progress ≡ At last → EndHere file base (suc left) k at l ⊎ Move
       by-header (Stopped number) t u = let z : _≡_ {A = ℕ} 0 1 = cc in absurd (omega arith)

@@ -14,6 +14,7 @@ use Rattle.scan.specs.declared.set.Set.{Set}
 use Rattle.loader.specs.declared.loader.Progress.the-variants.{At}
 use Rattle.loader.specs.Load.{Loading}
 use Rattle.writer.specs.Write.{fieldOf, fieldsOf}
+use Rattle.writer.proofs.WriteLaws.{fields-append}
 use Rattle.setfile.proofs.Fields.{after-field}
 
 -- an array of M places of which those from i on are zero
@@ -31,18 +32,11 @@ module _ {A : Type 0} (z d : A) (M : ℕ) where
     blank = λ k h w. getD-set-other l i k p d (λ e. omega arith) ∙ f .blank k (omega arith) w;
   }
 
--- the fields of two lists, one after the other
-fields-append : {A : Type 0} (tag : ℕ) (body : A → List ℕ) (a b : List A) → fieldsOf tag body (a ++ b) ≡ fieldsOf tag body a ++ fieldsOf tag body b
-unfolding fieldsOf
-fields-append tag body [] b = refl
-fields-append tag body (p ∷ a) b =
-    ap (λ (l : List ℕ). fieldOf tag (body p) ++ l) (fields-append tag body a b) ∙ sym (append-assoc (fieldOf tag (body p)) (fieldsOf tag body a) (fieldsOf tag body b))
-
--- One kind of field: its tag and bodies; the array of so many places that the fields fill, with what stands in a place not filled and what is read
+-- One kind of field: tags and bodies; the array of so many places that the fields fill, with what stands in a place not filled and what is read
 -- past the last; the set of an array of which i places are filled; the load from place `at` of the file on, where i places are filled and at most
 -- `left` fields are to come; and which points fit at place i, which the places before decide.
 pub record Run (A : Type 0) : Type 1 where
-  pub tag : ℕ
+  pub tag : A → ℕ
   pub body : A → List ℕ
   pub places : ℕ
   pub blank : A
@@ -58,7 +52,7 @@ begun R left at = R .from left 0 at (R .base 0 (replicate (R .places) (R .blank)
 
 module _ {A : Type 0} (file : List ℕ) (R : Run A) where
   -- ---- written, then loaded
-  module _ (step : (left i at : ℕ) (l : List A) (p : A) (rest : List ℕ) → i < R .places → R .Fits l i p → drop at file ≡ fieldOf (R .tag) (R .body p) ++ rest
+  module _ (step : (left i at : ℕ) (l : List A) (p : A) (rest : List ℕ) → i < R .places → R .Fits l i p → drop at file ≡ fieldOf (R .tag p) (R .body p) ++ rest
       → R .from (suc left) i at (R .base i l) ≡ R .from left (i + 1) (at + 3 + length (R .body p)) (R .base (i + 1) (set l i p)))
       (full : List A) (N : ℕ) (long : length full ≡ R .places) (few : N ≤ R .places) (fits : (k : ℕ) → k < N → R .Fits full k (getD full k (R .past))) where
     -- the first i places are those of the full array
@@ -85,12 +79,12 @@ module _ {A : Type 0} (file : List ℕ) (R : Run A) where
         let p = getD full i (R .past) in
         let more = fieldsOf (R .tag) (R .body) (take todo (drop (i + 1) full)) ++ tail in
         let q : drop i full ≡ p ∷ drop (i + 1) full = rw add-one (drop-cons full i (R .past) (omega arith)) in
-        let w′ : drop at file ≡ fieldOf (R .tag) (R .body p) ++ more =
+        let w′ : drop at file ≡ fieldOf (R .tag p) (R .body p) ++ more =
         w ∙ ap (λ (m : List A). fieldsOf (R .tag) (R .body) (take (suc todo) m) ++ tail) q
-        ∙ append-assoc (fieldOf (R .tag) (R .body p)) (fieldsOf (R .tag) (R .body) (take todo (drop (i + 1) full))) tail in
+        ∙ append-assoc (fieldOf (R .tag p) (R .body p)) (fieldsOf (R .tag) (R .body) (take todo (drop (i + 1) full))) tail in
         let fit = R .local full l i p (λ k h. sym (c .1 k h)) (fits i (omega arith)) in
         let one = step (todo + left) i at l p more (omega arith) fit w′ in
-        let t = loads-on todo left (i + 1) (at + 3 + length (R .body p)) (set l i p) tail (omega arith) (copied-more i l (omega arith) c) (after-field file at (R .tag) (R .body p) more w′) in
+        let t = loads-on todo left (i + 1) (at + 3 + length (R .body p)) (set l i p) tail (omega arith) (copied-more i l (omega arith) c) (after-field file at (R .tag p) (R .body p) more w′) in
         let s : suc todo + left ≡ suc (todo + left) = omega arith in
         (t .0, t .1, t .2, ap (λ (k : ℕ). R .from k i at (R .base i l)) s ∙ one ∙ t .3, t .4)
 
@@ -122,7 +116,7 @@ module _ {A : Type 0} (file : List ℕ) (R : Run A) where
     pub after : ℕ
     pub inside : i < R .places
     pub fit : R .Fits l i point
-    pub field : drop at file ≡ fieldOf (R .tag) (R .body point) ++ drop after file
+    pub field : drop at file ≡ fieldOf (R .tag point) (R .body point) ++ drop after file
     pub on : R .from (suc left) i at (R .base i l) ≡ R .from left (i + 1) after (R .base (i + 1) (set l i point))
 
   done-none : (start : ℕ) → Done start 0 start (replicate (R .places) (R .blank))
@@ -140,8 +134,8 @@ module _ {A : Type 0} (file : List ℕ) (R : Run A) where
         fits = λ k h. go k h (ℕ-discrete k i);
         written =
             f .written ∙ ap (λ (s : List ℕ). fieldsOf (R .tag) (R .body) (take i l) ++ s) (m .field)
-            ∙ sym (append-assoc (fieldsOf (R .tag) (R .body) (take i l)) (fieldOf (R .tag) (R .body p)) (drop (m .after) file))
-            ∙ ap (λ (s : List ℕ). (fieldsOf (R .tag) (R .body) (take i l) ++ s) ++ drop (m .after) file) (sym (append-nil (fieldOf (R .tag) (R .body p))))
+            ∙ sym (append-assoc (fieldsOf (R .tag) (R .body) (take i l)) (fieldOf (R .tag p) (R .body p)) (drop (m .after) file))
+            ∙ ap (λ (s : List ℕ). (fieldsOf (R .tag) (R .body) (take i l) ++ s) ++ drop (m .after) file) (sym (append-nil (fieldOf (R .tag p) (R .body p))))
             ∙ ap (λ (s : List ℕ). s ++ drop (m .after) file)
             (sym (ap (λ (k : ℕ). fieldsOf (R .tag) (R .body) (take k (set l i p))) (add-one i) ∙ ap (fieldsOf (R .tag) (R .body)) (take-suc-set l i p (omega arith)) ∙ fields-append (R .tag) (R .body) (take i l) (p ∷ [])));
       }

@@ -6,13 +6,14 @@ use mathlib.Core.List.{List, [], _∷_, _++_}
 use Prim.Native.Nat.{ℕ, _+_, _*_, _/_, _%_, _≤_, _<_}
 use native.Mathlib.Nat.{div-add-mod'}
 use native.Mathlib.Omega.{arith}
-use lib.Dec.{leb, eqb}
+use lib.Dec.{leb}
 use lib.ListN.{length, getD, take, drop, drop-of-length-le, length-append, length-take, length-drop, take-append-drop}
 use lib.Seq.{take-append-seam, drop-at, drop-drop, length-take-le, getD-take, getD-drop}
 use Rattle.scan.specs.Set.{mostConstraints}
 use Rattle.header.specs.declared.header.RawField.the-variants.{Field as Whole}
 use Rattle.header.specs.declared.header.Header.the-variants.{Field}
 use Rattle.header.specs.Bytes.{Bytes}
+use Rattle.header.specs.Tag.{isConstraint}
 use Rattle.header.specs.Header.{bodyLength, rawOf, bodyOf, fitsTable, isDue, headerOf}
 use Rattle.writer.specs.Write.{fieldOf}
 use Rattle.header.proofs.HeaderLaws.{not-cut, raw-field, a-field, found as header-found}
@@ -51,7 +52,7 @@ module _ (tag : ℕ) (body rest : List ℕ) where
   body-back = take-append-seam body rest
 
   -- Its header is found, where its tag is due and its length in the table.
-  pub field-back : (due m : ℕ) → isDue due tag ≡ true → (eqb tag 4 && leb mostConstraints m) ≡ false → fitsTable tag (length body) ≡ true
+  pub field-back : (due m : ℕ) → isDue due tag ≡ true → (isConstraint tag && leb mostConstraints m) ≡ false → fitsTable tag (length body) ≡ true
       → headerOf (fieldOf tag body ++ rest) due m ≡ Field tag (length body)
   field-back due m d f t =
       let s = fieldOf tag body ++ rest in
@@ -94,7 +95,7 @@ pub record Found (file : List ℕ) (at due m tag len : ℕ) : Type 0 where
   pub long : length (bodyOf (drop at file) len) ≡ len
   pub bytes : Bytes (bodyOf (drop at file) len)
   pub awaited : isDue due tag ≡ true
-  pub few : (eqb tag 4 && leb mostConstraints m) ≡ false
+  pub few : (isConstraint tag && leb mostConstraints m) ≡ false
   pub table : fitsTable tag len ≡ true
 
 -- A field that was found is as it would be written.

@@ -1,7 +1,7 @@
 -- The literals of a well-formed constraint, written and read back.
 -- Assumes nothing.
 use mathlib.Core.Path.{_≡_, refl, sym, _∙_, ap, ap₂, subst}
-use mathlib.Core.Bool.{Bool, true, false, not}
+use mathlib.Core.Bool.{Bool, true, false, not, _&&_}
 use mathlib.Core.List.{List, [], _∷_, _++_, append-assoc, append-nil}
 use Prim.Native.Nat.{ℕ, zero, suc, _+_, _≤_, _<_}
 use native.Mathlib.Numerals.{add-one}
@@ -16,12 +16,13 @@ use Rattle.scan.specs.declared.set.Constraint.{Constraint}
 use Rattle.scan.specs.Set.{mostReads, mostOutputs, rank, zeroConstraint}
 use Rattle.scan.proofs.ShapeLaws.{Masks}
 use Rattle.literal.specs.declared.literal.Said.{Said}
-use Rattle.literal.specs.Literal.{narrows, goodLiterals, literalsFrom, literalsOf}
+use Rattle.header.specs.Tag.{namesHigh}
+use Rattle.literal.specs.Literal.{saidBy, goodLiterals, literalsFrom, literalsOf}
 use Rattle.writer.specs.Write.{literalBody}
 use Rattle.literal.proofs.LiteralLaws.{room}
 use Rattle.setfile.proofs.LiteralPlaces.{said, placeOf, placesEnd, mask, added, alike, alike-true, unlike, bit-hit, bit-sign, bit-miss, rank-hit, rank-miss}
 use Rattle.setfile.proofs.BodyPlaces.{upTo, worth, saidIf, saidOf, placed, allSaid, placed-at, by-place}
-use Rattle.setfile.proofs.LiteralBytes.{narrows-back, body-said}
+use Rattle.setfile.proofs.LiteralBytes.{said-back, body-said}
 use Rattle.setfile.proofs.ConstraintBits.{Fine, fine}
 use Rattle.setfile.proofs.OneLiteral.{size, Below, below-zero, below-added, literal-taken}
 
@@ -39,7 +40,7 @@ size-room r n hr hn true = hn
 size-room r n hr hn false = hr
 
 -- the literals below place p have been taken: what was made of them, and the next one's least place
-record Came (r n : ℕ) (c : Constraint) (p : ℕ) : Type 0 where
+record Came (wide : Bool) (r n : ℕ) (c : Constraint) (p : ℕ) : Type 0 where
   next : ℕ
   made : Constraint
   rises : next ≤ p
@@ -47,10 +48,10 @@ record Came (r n : ℕ) (c : Constraint) (p : ℕ) : Type 0 where
   same : (o g : Bool) (k : ℕ) → k < room o → placeOf o k < p → bit k (mask o g made) ≡ bit k (mask o g c)
   ranked : (k : ℕ) → k < mostOutputs → mostReads + k < p → rank made k ≡ rank c k
   output : (g : Bool) (k : ℕ) → mostReads + k < p → bit k (mask true g c) ≡ true → mostReads < next
-  on : (t : List Said) → literalsFrom r n 0 zeroConstraint (upTo p (placed c) ++ t) ≡ literalsFrom r n next made t
+  on : (t : List Said) → literalsFrom wide r n 0 zeroConstraint (upTo p (placed c) ++ t) ≡ literalsFrom wide r n next made t
 
-module _ (r n : ℕ) (c : Constraint) (hr : r ≤ mostReads) (hn : n ≤ mostOutputs) (f : Fine r n c) where
-  came-first : Came r n c 0
+module _ (wide : Bool) (r n : ℕ) (c : Constraint) (hr : r ≤ mostReads) (hn : n ≤ mostOutputs) (f : Fine r n c) where
+  came-first : Came wide r n c 0
   unfolding upTo
   came-first = record {
     next = 0;
@@ -63,9 +64,9 @@ module _ (r n : ℕ) (c : Constraint) (hr : r ≤ mostReads) (hn : n ≤ mostOut
     on = λ t. refl;
   }
 
-  module _ (o : Bool) (k : ℕ) (w : k < room o) (a : Came r n c (placeOf o k)) where
+  module _ (o : Bool) (k : ℕ) (w : k < room o) (a : Came wide r n c (placeOf o k)) where
     -- the literal of the point is there, with sign g
-    came-literal : (g : Bool) → bit k (mask o g c) ≡ true → bit k (mask o (not g) c) ≡ false → saidOf c o k ≡ said o g k (worth o c k) ∷ [] → Came r n c (suc (placeOf o k))
+    came-literal : (g : Bool) → bit k (mask o g c) ≡ true → bit k (mask o (not g) c) ≡ false → saidOf c o k ≡ said o g k (worth o c k) ∷ [] → Came wide r n c (suc (placeOf o k))
     unfolding upTo
     came-literal g t u e =
         let p = placeOf o k in
@@ -83,10 +84,10 @@ module _ (r n : ℕ) (c : Constraint) (hr : r ≤ mostReads) (hn : n ≤ mostOut
           output = λ v j h z. past j h;
           on =
               λ y.
-              ap (literalsFrom r n 0 zeroConstraint) (append-assoc (upTo p (placed c)) (placed c p) y)
+              ap (literalsFrom wide r n 0 zeroConstraint) (append-assoc (upTo p (placed c)) (placed c p) y)
               ∙ a .on (placed c p ++ y)
-              ∙ ap (λ (z : List Said). literalsFrom r n (a .next) d (z ++ y)) (placed-at c o k w ∙ e)
-              ∙ literal-taken r n (a .next) d o g k x y s (plain o) (a .rises);
+              ∙ ap (λ (z : List Said). literalsFrom wide r n (a .next) d (z ++ y)) (placed-at c o k w ∙ e)
+              ∙ literal-taken wide r n (a .next) d o g k x y s (plain o) (a .rises);
         }
       where
         plain : (q : Bool) → q ≡ false → worth q c k ≡ 0
@@ -123,7 +124,7 @@ module _ (r n : ℕ) (c : Constraint) (hr : r ≤ mostReads) (hn : n ≤ mostOut
         kept j l h (no z) = rank-miss k (worth o c k) (a .made) o g j z ∙ a .ranked j l (omega arith)
 
     -- it is not there
-    came-none : bit k (mask o false c) ≡ false → bit k (mask o true c) ≡ false → Came r n c (suc (placeOf o k))
+    came-none : bit k (mask o false c) ≡ false → bit k (mask o true c) ≡ false → Came wide r n c (suc (placeOf o k))
     unfolding upTo
     came-none t u =
         let p = placeOf o k in
@@ -138,9 +139,9 @@ module _ (r n : ℕ) (c : Constraint) (hr : r ≤ mostReads) (hn : n ≤ mostOut
           output = λ v j h z. told-out v j h z (ℕ-discrete (mostReads + j) p);
           on =
               λ y.
-              ap (literalsFrom r n 0 zeroConstraint) (append-assoc (upTo p (placed c)) (placed c p) y)
+              ap (literalsFrom wide r n 0 zeroConstraint) (append-assoc (upTo p (placed c)) (placed c p) y)
               ∙ a .on (placed c p ++ y)
-              ∙ ap (λ (z : List Said). literalsFrom r n (a .next) (a .made) (z ++ y)) (placed-at c o k w ∙ ap₂ (λ (i j : Bool). saidIf o i j k (worth o c k)) t u);
+              ∙ ap (λ (z : List Said). literalsFrom wide r n (a .next) (a .made) (z ++ y)) (placed-at c o k w ∙ ap₂ (λ (i j : Bool). saidIf o i j k (worth o c k)) t u);
         }
       where
         off : (v : Bool) → bit k (mask o v c) ≡ false
@@ -168,7 +169,7 @@ module _ (r n : ℕ) (c : Constraint) (hr : r ≤ mostReads) (hn : n ≤ mostOut
             clash z (bare v j (one-point o true k j w (omega arith) y))
         told-out v j h z (no y) = a .output v j (omega arith) z
 
-    came-more : Came r n c (suc (placeOf o k))
+    came-more : Came wide r n c (suc (placeOf o k))
     came-more =
         by-test (bit k (mask o false c))
         (λ t. came-literal false t (f .apart o k t) (ap (λ (i : Bool). saidIf o i (bit k (mask o true c)) k (worth o c k)) t))
@@ -176,12 +177,12 @@ module _ (r n : ℕ) (c : Constraint) (hr : r ≤ mostReads) (hn : n ≤ mostOut
         (λ u. came-literal true u t (ap₂ (λ (i j : Bool). saidIf o i j k (worth o c k)) t u))
         (λ u. came-none t u))
 
-  came : (p : ℕ) → p ≤ placesEnd → Came r n c p
+  came : (p : ℕ) → p ≤ placesEnd → Came wide r n c p
   came zero h = came-first
-  came (suc p) h = by-place (λ (i : ℕ). Came r n c i → Came r n c (suc i)) (λ o k w a. came-more o k w a) p h (came p (omega arith))
+  came (suc p) h = by-place (λ (i : ℕ). Came wide r n c i → Came wide r n c (suc i)) (λ o k w a. came-more o k w a) p h (came p (omega arith))
 
   -- after the last place the constraint itself has been made
-  made-all : (a : Came r n c placesEnd) → a .made ≡ c
+  made-all : (a : Came wide r n c placesEnd) → a .made ≡ c
   made-all a =
       let p = whole true false in
       let q = whole true true in
@@ -201,19 +202,25 @@ module _ (r n : ℕ) (c : Constraint) (hr : r ≤ mostReads) (hn : n ≤ mostOut
           let s = size-room r n hr hn o in
           same-bits (size r n o) (mask o g (a .made)) (mask o g c) (a .below .small o g) (f .small o g) (λ k h. a .same o g k (omega arith) (last o k (omega arith)))
 
-  ended : (next : ℕ) → mostReads < next → literalsFrom r n next c [] ≡ goodLiterals c
+  ended : (wide && not (namesHigh c)) ≡ false → (next : ℕ) → mostReads < next → literalsFrom wide r n next c [] ≡ goodLiterals c
   unfolding literalsFrom
-  ended next h = rw (lt-leb next mostReads h)
+  ended e next h = rw (e, lt-leb next mostReads h)
 
-  back : literalsFrom r n 0 zeroConstraint (allSaid c) ≡ goodLiterals c
-  back =
+  back : (wide && not (namesHigh c)) ≡ false → literalsFrom wide r n 0 zeroConstraint (allSaid c) ≡ goodLiterals c
+  back e =
       let a = came placesEnd (omega arith) in
       let s = f .some in
       let l = s .2 in
       let past = a .output (s .0) (s .1) (omega arith) (s .3) in
-      ap (literalsFrom r n 0 zeroConstraint) (sym (append-nil (allSaid c))) ∙ a .on []
-      ∙ ap (λ (d : Constraint). literalsFrom r n (a .next) d []) (made-all a) ∙ ended (a .next) past
+      ap (literalsFrom wide r n 0 zeroConstraint) (sym (append-nil (allSaid c))) ∙ a .on []
+      ∙ ap (λ (d : Constraint). literalsFrom wide r n (a .next) d []) (made-all a) ∙ ended e (a .next) past
 
 -- The literals of a well-formed constraint are read back.
-pub literals-back : (r n : ℕ) (c : Constraint) → r ≤ mostReads → n ≤ mostOutputs → Masks r n c → literalsOf r n (literalBody c) ≡ goodLiterals c
-literals-back r n c hr hn m = ap (literalsFrom r n 0 zeroConstraint) (ap narrows (body-said c) ∙ narrows-back c) ∙ back r n c hr hn (fine r n c m)
+pub literals-back : (r n : ℕ) (c : Constraint) → r ≤ mostReads → n ≤ mostOutputs → Masks r n c → literalsOf (namesHigh c) r n (literalBody c) ≡ goodLiterals c
+literals-back r n c hr hn m =
+    let wide = namesHigh c in
+    ap (literalsFrom wide r n 0 zeroConstraint) (ap (saidBy wide) (body-said wide c) ∙ said-back wide c (λ e. e)) ∙ back wide r n c hr hn (fine r n c m) (never wide)
+  where
+    never : (b : Bool) → (b && not b) ≡ false
+    never true = refl
+    never false = refl

@@ -1,7 +1,7 @@
 -- The literals that were taken from a body make a well-formed constraint, and the body is the one that is written for it.
 -- Assumes nothing.
 use mathlib.Core.Path.{_≡_, refl, sym, _∙_, ap, ap₂, subst}
-use mathlib.Core.Bool.{Bool, true, false, cond, _&&_}
+use mathlib.Core.Bool.{Bool, true, false, cond, not, _&&_}
 use mathlib.Core.List.{List, [], _∷_, _++_, append-assoc, append-nil}
 use Prim.Native.Nat.{ℕ, zero, suc, _+_, _^_, _≤_, _<_}
 use native.Mathlib.Nat.{lt-of-le-of-lt}
@@ -23,38 +23,41 @@ use Rattle.literal.specs.declared.literal.Said.{Said}
 use Rattle.literal.specs.declared.literal.Literals.{Literals}
 use Rattle.header.specs.declared.numbers.Taken.the-variants.{Good}
 use Rattle.header.specs.Bytes.{Bytes}
-use Rattle.literal.specs.Literal.{narrows, place, isLiteral, withLiteral, refusedLiterals, goodLiterals, literalThen, literalsFrom, literalsOf}
-use Rattle.writer.specs.Write.{literalBody}
+use Rattle.header.specs.Tag.{namesHigh}
+use Rattle.literal.specs.Literal.{saidBy, place, isLiteral, withLiteral, refusedLiterals, goodLiterals, literalThen, literalsFrom, literalsOf}
+use Rattle.writer.specs.Write.{literalsBy, literalBody}
 use Rattle.literal.proofs.LiteralLaws.{room}
-use Rattle.setfile.proofs.LiteralPlaces.{said, said-is, placeOf, placesEnd, mask, added, with-added, alike, alike-true, bit-hit, bit-sign, bit-else, bit-miss, rank-hit, rank-miss}
+use Rattle.setfile.proofs.LiteralPlaces.{said, said-is, placeOf, placesEnd, mask, added, with-added, alike, alike-true, bit-hit, bit-sign, bit-else, bit-miss, mask-wide, rank-hit, rank-miss}
 use Rattle.setfile.proofs.BodyPlaces.{upTo, placed, allSaid, upto-same}
-use Rattle.setfile.proofs.LiteralBytes.{bytesOf, AllClear, AllRanked, bytes-back, narrows-ranked, body-said}
+use Rattle.setfile.proofs.LiteralBytes.{masks-low, bytesOf, AllClear, AllSized, bytes-back, said-sized, body-said}
 use Rattle.setfile.proofs.OneLiteral.{size, Below, below-zero, below-added, blank-place, said-added, literal-is}
 
 -- a rank is a byte, and zero where the output is not named
 abbrev Ranked : Constraint → ℕ → Type 0
 Ranked c k = (rank c k < rankEnd) × (bit k (mask true false c) ≡ false → bit k (mask true true c) ≡ false → rank c k ≡ 0)
 
--- a constraint that was made of literals below place p
-record Sound (r n p : ℕ) (c : Constraint) : Type 0 where
+-- a constraint that was made of literals below place p, of a wide body or not
+record Sound (wide : Bool) (r n p : ℕ) (c : Constraint) : Type 0 where
   below : Below r n p c
   apart : (o : Bool) (k : ℕ) → bit k (mask o false c) ≡ true → bit k (mask o true c) ≡ false
   ranked : (k : ℕ) → k < mostOutputs → Ranked c k
   some : mostReads < p → (g : Bool) × (k : ℕ) × (bit k (mask true g c) ≡ true)
+  low : wide ≡ false → (g : Bool) → mask false g c < 2 ^ 16
 
-sound-zero : (r n : ℕ) → Sound r n 0 zeroConstraint
-sound-zero r n =
+sound-zero : (wide : Bool) (r n : ℕ) → Sound wide r n 0 zeroConstraint
+sound-zero wide r n =
     let b = below-zero r n in
     record {
       below = b;
       apart = λ o k t. b .none o true k (omega arith);
       ranked = λ k h. let z = b .unranked k (omega arith) h in (omega arith, λ p q. z);
       some = λ h. absurd (omega arith);
+      low = λ e g. below-zero 16 0 .small false g;
     }
 
 -- ---- one literal more
 
-module _ (r n p : ℕ) (c : Constraint) (s : Sound r n p c) (o g : Bool) (k x : ℕ) (h : p ≤ placeOf o k) (w : k < size r n o) (room-ok : k < room o) (small : x < rankEnd) where
+module _ (wide : Bool) (r n p : ℕ) (c : Constraint) (s : Sound wide r n p c) (o g : Bool) (k x : ℕ) (h : p ≤ placeOf o k) (w : k < size r n o) (room-ok : k < room o) (small : x < rankEnd) (four : wide ≡ false → k < 16) where
   apart-added : (q : Bool) (j : ℕ) → bit j (mask q false (added o g k x c)) ≡ true → bit j (mask q true (added o g k x c)) ≡ false
   apart-added q j t =
       by-test (alike o q && eqb j k)
@@ -97,12 +100,13 @@ module _ (r n p : ℕ) (c : Constraint) (s : Sound r n p c) (o g : Bool) (k x : 
             λ u v. y ∙ t .1 (sym (bit-miss k x c o g true false j e) ∙ u) (sym (bit-miss k x c o g true true j e) ∙ v),
           )
 
-  sound-added : Sound r n (placeOf o k + 1) (added o g k x c)
+  sound-added : Sound wide r n (placeOf o k + 1) (added o g k x c)
   sound-added = record {
     below = below-added r n p c (s .below) o g k x h w;
     apart = apart-added;
     ranked = ranked-added;
     some = some-added o refl;
+    low = λ e q. mask-wide k x c o g false q 16 (λ a. four e) (s .low e q);
   }
     where
       some-added : (q : Bool) → o ≡ q → mostReads < placeOf q k + 1 → (v : Bool) × (j : ℕ) × (bit j (mask true v (added o g k x c)) ≡ true)
@@ -119,9 +123,9 @@ every-nine : (a b c d e f g h i : Bool) → a ≡ true → b ≡ true → c ≡ 
     → every (a ∷ b ∷ c ∷ d ∷ e ∷ f ∷ g ∷ h ∷ i ∷ []) ≡ true
 every-nine a b c d e f g h i a′ b′ c′ d′ e′ f′ g′ h′ i′ = λ j. every (a′ j ∷ b′ j ∷ c′ j ∷ d′ j ∷ e′ j ∷ f′ j ∷ g′ j ∷ h′ j ∷ i′ j ∷ [])
 
-sound-tests : (r n p : ℕ) (c : Constraint) → Sound r n p c → mostReads < p → every (constraintTests r n c) ≡ true
+sound-tests : (wide : Bool) (r n p : ℕ) (c : Constraint) → Sound wide r n p c → mostReads < p → every (constraintTests r n c) ≡ true
 unfolding constraintTests rankOk
-sound-tests r n p c s l =
+sound-tests wide r n p c s l =
     let b = s .below in
     every-nine _ _ _ _ _ _ _ _ _
     (lt-ltb (c .«read_plain») (2 ^ r) (b .small false false))
@@ -166,31 +170,38 @@ sound-tests r n p c s l =
 -- ---- all literals
 
 -- what was made of a constraint and literals
-abbrev Made : ℕ → ℕ → Constraint → List Said → Constraint → Type 0
-Made r n c ls made = (every (constraintTests r n made) ≡ true) × (allSaid made ≡ allSaid c ++ ls) × AllClear ls
+abbrev Made : Bool → ℕ → ℕ → Constraint → List Said → Constraint → Type 0
+Made wide r n c ls made = (every (constraintTests r n made) ≡ true) × (allSaid made ≡ allSaid c ++ ls) × AllClear ls × (namesHigh made ≡ wide)
 
-module _ (r n : ℕ) (hr : r ≤ mostReads) (hn : n ≤ mostOutputs) where
+module _ (wide : Bool) (r n : ℕ) (hr : r ≤ mostReads) (hn : n ≤ mostOutputs) where
   fits-room : (o : Bool) (k : ℕ) → k < size r n o → k < room o
   fits-room true k h = omega arith
   fits-room false k h = omega arith
 
-  last : (next : ℕ) (c : Constraint) → Sound r n next c → (b : Bool) → leb next mostReads ≡ b
-      → cond b (refusedLiterals 11) (goodLiterals c) .taken ≡ Good → Made r n c [] (cond b (refusedLiterals 11) (goodLiterals c) .made)
-  last next c s true e t = let z : _≡_ {A = ℕ} 0 1 = cc in absurd (omega arith)
-  last next c s false e t = (sound-tests r n next c s (leb-false next mostReads e), sym (append-nil (allSaid c)), tt)
+  last : (next : ℕ) (c : Constraint) → Sound wide r n next c → (b d : Bool) → (wide && not (namesHigh c)) ≡ b → leb next mostReads ≡ d
+      → cond b (refusedLiterals 59) (cond d (refusedLiterals 11) (goodLiterals c)) .taken ≡ Good
+      → Made wide r n c [] (cond b (refusedLiterals 59) (cond d (refusedLiterals 11) (goodLiterals c)) .made)
+  last next c s true d f e t = let z : _≡_ {A = ℕ} 0 1 = cc in absurd (omega arith)
+  last next c s false true f e t = let z : _≡_ {A = ℕ} 0 1 = cc in absurd (omega arith)
+  last next c s false false f e t = (sound-tests wide r n next c s (leb-false next mostReads e), sym (append-nil (allSaid c)), tt, high wide (namesHigh c) refl refl f)
+    where
+      high : (w h : Bool) → wide ≡ w → namesHigh c ≡ h → (w && not h) ≡ false → h ≡ w
+      high true true u v q = refl
+      high true false u v q = sym q
+      high false h u v q = sym v ∙ masks-low c (s .low u)
 
-  taken : (next : ℕ) (c : Constraint) (ls : List Said) → AllRanked ls → Sound r n next c → literalsFrom r n next c ls .taken ≡ Good → Made r n c ls (literalsFrom r n next c ls .made)
+  taken : (next : ℕ) (c : Constraint) (ls : List Said) → AllSized wide ls → Sound wide r n next c → literalsFrom wide r n next c ls .taken ≡ Good → Made wide r n c ls (literalsFrom wide r n next c ls .made)
   unfolding literalsFrom
-  taken next c [] b s t = last next c s (leb next mostReads) refl t
+  taken next c [] b s t = last next c s (wide && not (namesHigh c)) (leb next mostReads) refl refl t
   taken next c (l ∷ rest) b s t =
       go (isLiteral l r n) (leb next (place l)) refl refl (λ v u. taken (place l + 1) (withLiteral c l) rest (b .1) v u) t
     where
       others : Literals
-      others = literalsFrom r n (place l + 1) (withLiteral c l) rest
+      others = literalsFrom wide r n (place l + 1) (withLiteral c l) rest
 
       go : (i j : Bool) → isLiteral l r n ≡ i → leb next (place l) ≡ j
-          → (Sound r n (place l + 1) (withLiteral c l) → others .taken ≡ Good → Made r n (withLiteral c l) rest (others .made))
-          → literalThen i j others .taken ≡ Good → Made r n c (l ∷ rest) (literalThen i j others .made)
+          → (Sound wide r n (place l + 1) (withLiteral c l) → others .taken ≡ Good → Made wide r n (withLiteral c l) rest (others .made))
+          → literalThen i j others .taken ≡ Good → Made wide r n c (l ∷ rest) (literalThen i j others .made)
       go false j e f more u = let z : _≡_ {A = ℕ} 0 1 = cc in absurd (omega arith)
       go true false e f more u = let z : _≡_ {A = ℕ} 0 1 = cc in absurd (omega arith)
       go true true e f more u =
@@ -201,15 +212,16 @@ module _ (r n : ℕ) (hr : r ≤ mostReads) (hn : n ≤ mostOutputs) where
           let t = literal-is r n l e in
           let same : l ≡ said o g k x = said-is l (t .0) in
           let rises : next ≤ placeOf o k = leb-true next (place l) f in
-          let wide = fits-room o k (t .1) in
+          let inside = fits-room o k (t .1) in
           let d = added o g k x c in
           let d-is : d ≡ withLiteral c l = sym (ap (withLiteral c) same ∙ with-added c o g k x) in
-          let m = more (subst (Sound r n (place l + 1)) d-is (sound-added r n next c s o g k x rises (t .1) wide (b .0))) u in (
+          let m = more (subst (Sound wide r n (place l + 1)) d-is (sound-added wide r n next c s o g k x rises (t .1) inside (b .0 .0) (b .0 .1))) u in (
             m .0,
             m .1 ∙ ap (λ (v : Constraint). allSaid v ++ rest) (sym d-is)
-                ∙ ap (λ (v : List Said). v ++ rest) (said-added r n next c (s .below) o g k x rises (t .1) wide (t .2) ∙ ap (λ (v : Said). allSaid c ++ (v ∷ [])) (sym same))
+                ∙ ap (λ (v : List Said). v ++ rest) (said-added r n next c (s .below) o g k x rises (t .1) inside (t .2) ∙ ap (λ (v : Said). allSaid c ++ (v ∷ [])) (sym same))
                 ∙ append-assoc (allSaid c) (l ∷ []) rest,
             (t .0, m .2),
+            m .3,
           )
 
 -- The constraint of zeros has no literals.
@@ -223,11 +235,11 @@ zero-said =
     nothing zero = refl
     nothing (suc n) = append-nil (upTo n (λ k. [])) ∙ nothing n
 
--- What the literals of a body make is well formed, and the body is the one written for it.
-pub literals-taken : (r n : ℕ) (body : List ℕ) → r ≤ mostReads → n ≤ mostOutputs → Bytes body → literalsOf r n body .taken ≡ Good
-    → (every (constraintTests r n (literalsOf r n body .made)) ≡ true) × (literalBody (literalsOf r n body .made) ≡ body)
-literals-taken r n body hr hn b t =
-    let m = taken r n hr hn 0 zeroConstraint (narrows body) (narrows-ranked body b) (sound-zero r n) t in
-    let c = literalsOf r n body .made in
-    let same : allSaid c ≡ narrows body = m .1 ∙ ap (λ (l : List Said). l ++ narrows body) zero-said in
-    (m .0, body-said c ∙ ap bytesOf same ∙ bytes-back body b (m .2))
+-- What the literals of a body make is well formed, is wide exactly when the body is, and the body is the one written for it.
+pub literals-taken : (wide : Bool) (r n : ℕ) (body : List ℕ) → r ≤ mostReads → n ≤ mostOutputs → Bytes body → literalsOf wide r n body .taken ≡ Good
+    → let c = literalsOf wide r n body .made in (every (constraintTests r n c) ≡ true) × (namesHigh c ≡ wide) × (literalBody c ≡ body)
+literals-taken wide r n body hr hn b t =
+    let m = taken wide r n hr hn 0 zeroConstraint (saidBy wide body) (said-sized wide body b) (sound-zero wide r n) t in
+    let c = literalsOf wide r n body .made in
+    let same : allSaid c ≡ saidBy wide body = m .1 ∙ ap (λ (l : List Said). l ++ saidBy wide body) zero-said in
+    (m .0, m .3, ap (λ (w : Bool). literalsBy w c) (m .3) ∙ body-said wide c ∙ ap (bytesOf wide) same ∙ bytes-back wide body b (m .2))

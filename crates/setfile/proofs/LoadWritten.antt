@@ -14,9 +14,10 @@ use Rattle.scan.specs.declared.set.Set.{Set}
 use Rattle.scan.specs.Set.{mostReads, mostOutputs, mostPoints, mostConstraints, zeroSet, zeroConstraint, noConstraint, readPoint, outputPoint, constraint}
 use Rattle.scan.specs.Shape.{countTests, constraintTests, wellFormed}
 use Rattle.scan.proofs.ShapeLaws.{constraint-ok, counts, rest-lt, beyond-zero, points-formed}
+use Rattle.header.specs.Tag.{tagBy, namesHigh}
 use Rattle.loader.specs.declared.loader.LoadAnswer.the-variants.{Loaded}
 use Rattle.loader.specs.Load.{Loading, goingOn, andThen, fieldDone, fieldBy, ofCounts, goodIf, countsTold, countsMade, countsAt, constraintsFrom, afterCounts, afterReads, afterOutputs, afterRest, answered, loadFrom, loadOf}
-use Rattle.writer.specs.Write.{fieldOf, readBody, outputBody, literalBody, fieldsOf, restField, writeOf}
+use Rattle.writer.specs.Write.{fieldOf, readBody, outputBody, constraintTag, literalBody, readTag, outputTag, fieldsOf, restField, writeOf}
 use Rattle.setfile.proofs.Fields.{field-back}
 use Rattle.setfile.proofs.PointsFit.{read-fits, output-fits}
 use Rattle.setfile.proofs.ZeroPlaces.{read-blank, output-blank, constraint-blank}
@@ -28,13 +29,17 @@ use Rattle.setfile.proofs.ConstraintRuns.{restBase, constraintRun, cons
 
 -- the fields of constraints and the end
 abbrev pub behindRest : Set → List ℕ
-behindRest s = fieldsOf 0x04 literalBody (take (s .m) (s .constraints)) ++ fieldOf 0x05 []
+behindRest s = fieldsOf constraintTag literalBody (take (s .m) (s .constraints)) ++ fieldOf 0x05 []
 
 -- they begin with the tag of a constraint or of the end
-last-tag : (l : List Constraint) → eqb (getD (fieldsOf 0x04 literalBody l ++ fieldOf 0x05 []) 0 0) 6 ≡ false
+last-tag : (l : List Constraint) → eqb (getD (fieldsOf constraintTag literalBody l ++ fieldOf 0x05 []) 0 0) 6 ≡ false
 unfolding fieldsOf
 last-tag [] = refl
-last-tag (c ∷ l) = refl
+last-tag (c ∷ l) = go (namesHigh c)
+  where
+    go : (wide : Bool) → eqb (tagBy wide) 6 ≡ false
+    go true = refl
+    go false = refl
 
 -- that of the rest word, too
 abbrev pub behindOutputs : Set → List ℕ
@@ -42,11 +47,11 @@ behindOutputs s = restField (s .rest) ++ behindRest s
 
 -- those of outputs, too
 abbrev pub behindReads : Set → List ℕ
-behindReads s = fieldsOf 0x03 outputBody (take (s .n) (s .outputs)) ++ behindOutputs s
+behindReads s = fieldsOf outputTag outputBody (take (s .n) (s .outputs)) ++ behindOutputs s
 
 -- those of read points, too
 abbrev pub behindCounts : Set → List ℕ
-behindCounts s = fieldsOf 0x02 readBody (take (s .r) (s .reads)) ++ behindReads s
+behindCounts s = fieldsOf readTag readBody (take (s .r) (s .reads)) ++ behindReads s
 
 -- A set's file is the counts and those.
 pub file-parts : (s : Set) → writeOf s ≡ fieldOf 0x01 (s .r ∷ s .n ∷ []) ++ behindCounts s

@@ -140,8 +140,8 @@ literal-is r n l e =
     go false t = let u = and-true (eqb (l .rank) 0) (ltb k r) t in (ltb-true k r (u .1), λ z. eqb-true (l .rank) 0 (u .0))
 
 -- A literal that is one, and rises, is taken.
-pub literal-taken : (r n next : ℕ) (c : Constraint) (o g : Bool) (k x : ℕ) (rest : List Said) → k < size r n o → (o ≡ false → x ≡ 0) → next ≤ placeOf o k
-    → literalsFrom r n next c (said o g k x ∷ rest) ≡ literalsFrom r n (placeOf o k + 1) (added o g k x c) rest
-literal-taken r n next c o g k x rest h z l =
-    one-more r n next c (said o g k x) rest (is-literal r n o g k x h z) l
-    ∙ ap (λ (d : Constraint). literalsFrom r n (placeOf o k + 1) d rest) (with-added c o g k x)
+pub literal-taken : (wide : Bool) (r n next : ℕ) (c : Constraint) (o g : Bool) (k x : ℕ) (rest : List Said) → k < size r n o → (o ≡ false → x ≡ 0) → next ≤ placeOf o k
+    → literalsFrom wide r n next c (said o g k x ∷ rest) ≡ literalsFrom wide r n (placeOf o k + 1) (added o g k x c) rest
+literal-taken wide r n next c o g k x rest h z l =
+    one-more wide r n next c (said o g k x) rest (is-literal r n o g k x h z) l
+    ∙ ap (λ (d : Constraint). literalsFrom wide r n (placeOf o k + 1) d rest) (with-added c o g k x)

@@ -21,7 +21,7 @@ use Rattle.loader.specs.declared.point.ReadField.{ReadField}
 use Rattle.loader.specs.declared.point.NameField.{NameField}
 use Rattle.header.specs.Header.{headerOf, fitsTable}
 use Rattle.loader.specs.Load.{goingOn, andThen, ofCounts, readOf, readAt, readsFrom, outputOf, outputAt, outputsFrom}
-use Rattle.writer.specs.Write.{kindBytes, readBody, outputBody}
+use Rattle.writer.specs.Write.{kindBytes, readBody, outputBody, readTag, outputTag}
 use Rattle.header.proofs.HeaderLaws.{table-bounds}
 use Rattle.setfile.proofs.NamesBack.{name-bounds}
 use Rattle.setfile.proofs.PointsFit.{ReadFits, OutputFits, read-local, output-local}
@@ -37,7 +37,7 @@ readsBase r n i l = withReads (ofCounts r n) l
 
 abbrev pub readRun : List ℕ → ℕ → ℕ → Run ReadPoint
 readRun file r n = record {
-  tag = 2;
+  tag = readTag;
   body = readBody;
   places = mostReads;
   blank = zeroRead;
@@ -88,6 +88,8 @@ module _ (file : List ℕ) (r n : ℕ) where
     run = readRun file r n;
     said = readSaid;
     value = readValue;
+    due = 2;
+    one-tag = λ p. refl;
     plain = refl;
     ends = reads-end;
     opens = reads-open;
@@ -108,7 +110,7 @@ no-rest r n reads j l = refl
 
 abbrev pub outputRun : List ℕ → ℕ → ℕ → List ReadPoint → Run OutputPoint
 outputRun file r n reads = record {
-  tag = 3;
+  tag = outputTag;
   body = outputBody;
   places = mostOutputs;
   blank = zeroOutput;
@@ -149,6 +151,8 @@ module _ (file : List ℕ) (r n : ℕ) (reads : List ReadPoint) where
     run = outputRun file r n reads;
     said = outputSaid;
     value = outputValue;
+    due = 3;
+    one-tag = λ p. refl;
     plain = refl;
     ends = outputs-end;
     opens = outputs-open;

@@ -2,15 +2,15 @@
 -- Assumes nothing.
 use mathlib.Core.Path.{_≡_, refl, sym, _∙_, ap, ap₂, subst}
 use mathlib.Core.Logic.{inr}
-use mathlib.Core.Bool.{Bool, true, false, _&&_}
+use mathlib.Core.Bool.{Bool, true, false, _&&_, _||_}
 use mathlib.Core.List.{List, _++_}
 use Prim.Native.Nat.{ℕ, suc, _+_, _≤_, _<_}
 use native.Mathlib.Nat.{add-zero}
 use native.Mathlib.Omega.{arith}
 use lib.Dec.{leb, eqb}
 use lib.ListN.{length, getD, take, drop, set}
-use borrow.Author.Tests.{eq-eqb}
-use Rattle.words.proofs.BoolLaws.{or-left}
+use borrow.Author.Tests.{eqb-false, eq-eqb}
+use Rattle.words.proofs.BoolLaws.{or-left, or-false}
 use Rattle.scan.specs.declared.set.Set.{Set}
 use Rattle.scan.specs.Set.{mostConstraints}
 use Rattle.header.specs.declared.header.Header.{Header}
@@ -19,6 +19,7 @@ use Rattle.header.specs.declared.numbers.Taken.{Taken}
 use Rattle.header.specs.declared.numbers.Taken.the-variants.{Refused as Denied, Good}
 use Rattle.loader.specs.declared.loader.Progress.the-variants.{At}
 use Rattle.header.specs.Bytes.{Bytes}
+use Rattle.header.specs.Tag.{isConstraint}
 use Rattle.header.specs.Header.{headerOf, bodyOf, fitsTable}
 use Rattle.loader.specs.Load.{Loading, goingOn, andThen, fieldDone, fieldBy}
 use Rattle.writer.specs.Write.{fieldOf, fieldsOf}
@@ -32,38 +33,44 @@ module _ {A : Type 0} (file : List ℕ) (R : Run A) (said : List ℕ → Set →
   abbrev pub pointBy : ℕ → ℕ → List A → Header → Loading
   pointBy at i l = fieldBy file at (λ b. said b (R .base i l) i) (λ b. R .base (i + 1) (set l i (value b (R .base i l) i)))
 
--- a run of such fields: its tag is not that of constraints, it goes on by one field after the other, a point that fits is given by its body, and a
+-- a run of such fields: they have one tag, which is not a constraint's, it goes on by one field after the other, a point that fits is given by its body, and a
 -- body that gives a point is that of a point that fits
 pub record PointRun (A : Type 0) (file : List ℕ) : Type 1 where
   pub run : Run A
   pub said : List ℕ → Set → ℕ → Taken
   pub value : List ℕ → Set → ℕ → A
-  pub plain : eqb (run .tag) 4 ≡ false
+  pub due : ℕ
+  pub one-tag : (p : A) → run .tag p ≡ due
+  pub plain : isConstraint due ≡ false
   pub ends : (i at : ℕ) (s : Set) → run .from 0 i at s ≡ goingOn at s
   pub opens : (left i at : ℕ) (l : List A)
-      → run .from (suc left) i at (run .base i l) ≡ andThen (pointBy file run said value at i l (headerOf (drop at file) (run .tag) 0)) (run .from left (i + 1))
+      → run .from (suc left) i at (run .base i l) ≡ andThen (pointBy file run said value at i l (headerOf (drop at file) due 0)) (run .from left (i + 1))
   pub gives : (l : List A) (i : ℕ) (p : A) → run .Fits l i p
-      → (fitsTable (run .tag) (length (run .body p)) ≡ true) × (said (run .body p) (run .base i l) i ≡ Good) × (value (run .body p) (run .base i l) i ≡ p)
-  pub takes : (b : List ℕ) (l : List A) (i : ℕ) → fitsTable (run .tag) (length b) ≡ true → said b (run .base i l) i ≡ Good
+      → (fitsTable due (length (run .body p)) ≡ true) × (said (run .body p) (run .base i l) i ≡ Good) × (value (run .body p) (run .base i l) i ≡ p)
+  pub takes : (b : List ℕ) (l : List A) (i : ℕ) → fitsTable due (length b) ≡ true → said b (run .base i l) i ≡ Good
       → run .Fits l i (value b (run .base i l) i) × (run .body (value b (run .base i l) i) ≡ b)
 
 module _ {A : Type 0} (file : List ℕ) (K : PointRun A file) where
-  not-4 : (b : Bool) → (eqb (K .run .tag) 4 && b) ≡ false
-  not-4 b = ap (λ (t : Bool). t && b) (K .plain)
+  no-constraint : (b : Bool) → (isConstraint (K .due) && b) ≡ false
+  no-constraint b = ap (λ (t : Bool). t && b) (K .plain)
+
+  not-4 : K .due ≡ 4 → ⊥
+  not-4 = eqb-false (K .due) 4 (or-false (eqb (K .due) 4) (eqb (K .due) 7) (K .plain) .0)
 
   -- a field whose body gives a point that fits is taken
-  step : (left i at : ℕ) (l : List A) (p : A) (rest : List ℕ) → i < K .run .places → K .run .Fits l i p → drop at file ≡ fieldOf (K .run .tag) (K .run .body p) ++ rest
+  step : (left i at : ℕ) (l : List A) (p : A) (rest : List ℕ) → i < K .run .places → K .run .Fits l i p → drop at file ≡ fieldOf (K .run .tag p) (K .run .body p) ++ rest
       → K .run .from (suc left) i at (K .run .base i l) ≡ K .run .from left (i + 1) (at + 3 + length (K .run .body p)) (K .run .base (i + 1) (set l i p))
   step left i at l p rest h f e =
-      let due = K .run .tag in
+      let due = K .due in
       let g = K .gives l i p f in
       let b = K .run .body p in
+      let here : drop at file ≡ fieldOf due b ++ rest = e ∙ ap (λ (t : ℕ). fieldOf t b ++ rest) (K .one-tag p) in
       let len = length b in
       let s = K .run .base i l in
       let hd : headerOf (drop at file) due 0 ≡ Field due len =
-      ap (λ (x : List ℕ). headerOf x due 0) e
-      ∙ field-back due b rest due 0 (or-left (eqb due due) (eqb due 4 && eqb due 5) (eq-eqb due due refl)) (not-4 (leb mostConstraints 0)) (g .0) in
-      let bd : bodyOf (drop at file) len ≡ b = ap (λ (x : List ℕ). bodyOf x len) e ∙ body-back due b rest in
+      ap (λ (x : List ℕ). headerOf x due 0) here
+      ∙ field-back due b rest due 0 (or-left (eqb due due) (eqb due 4 && (eqb due 5 || eqb due 7)) (eq-eqb due due refl)) (no-constraint (leb mostConstraints 0)) (g .0) in
+      let bd : bodyOf (drop at file) len ≡ b = ap (λ (x : List ℕ). bodyOf x len) here ∙ body-back due b rest in
       K .opens left i at l
       ∙ ap (λ (x : Header). andThen (pointBy file (K .run) (K .said) (K .value) at i l x) (K .run .from left (i + 1))) hd
       ∙ ap₂ (λ (t : Taken) (x : A). andThen (fieldDone at len t (K .run .base (i + 1) (set l i x))) (K .run .from left (i + 1)))
@@ -75,7 +82,7 @@ module _ {A : Type 0} (file : List ℕ) (K : PointRun A file) where
       by-header (headerOf (drop at file) due 0) refl (ap (λ (x : Loading). x .progress) (sym (K .opens left i at l)) ∙ e)
     where
       due : ℕ
-      due = K .run .tag
+      due = K .due
 
       s : Set
       s = K .run .base i l
@@ -89,14 +96,14 @@ module _ {A : Type 0} (file : List ℕ) (K : PointRun A file) where
       by-point tag len hd Good t u =
           let f = found file at due 0 tag len bytes hd in
           let b = bodyOf (drop at file) len in
-          let same : tag ≡ due = due-is due tag (not-4 (eqb tag 5)) (f .awaited) in
+          let same : tag ≡ due = due-is due tag not-4 (f .awaited) in
           let g = K .takes b l i (ap₂ fitsTable (sym same) (f .long) ∙ f .table) t in
           record {
             point = K .value b s i;
             after = at + 3 + len;
             inside = h;
             fit = g .0;
-            field = f .whole ∙ ap₂ (λ (x : ℕ) (y : List ℕ). fieldOf x y ++ drop (at + 3 + len) file) same (sym (g .1));
+            field = f .whole ∙ ap₂ (λ (x : ℕ) (y : List ℕ). fieldOf x y ++ drop (at + 3 + len) file) (same ∙ sym (K .one-tag (K .value b s i))) (sym (g .1));
             on =
                 K .opens left i at l
                 ∙ ap (λ (x : Header). andThen (pointBy file (K .run) (K .said) (K .value) at i l x) next) hd

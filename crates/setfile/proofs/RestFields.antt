@@ -10,7 +10,7 @@ use native.Mathlib.Omega.{arith}
 use lib.Dec.{ltb, eqb}
 use lib.ListN.{length, getD, drop}
 use lib.Pow.{pow-pos}
-use borrow.Author.Tests.{lt-ltb, ltb-true}
+use borrow.Author.Tests.{eqb-false, lt-ltb, ltb-true}
 use Rattle.words.proofs.BoolLaws.{by-test, and-true}
 use Rattle.scan.specs.declared.set.Set.{Set}
 use Rattle.scan.specs.Set.{withRest}
@@ -99,7 +99,7 @@ module _ (file : List ℕ) (at : ℕ) (set : Set) (none : set .rest ≡ 0) where
     by-good tag len hd false t u = let z : _≡_ {A = ℕ} 0 1 = cc in absurd (omega arith)
     by-good tag len hd true t u =
         let f = found file at 6 0 tag len bytes hd in
-        let six : tag ≡ 6 = due-is 6 tag refl (f .awaited) in
+        let six : tag ≡ 6 = due-is 6 tag (eqb-false 6 4 refl) (f .awaited) in
         let two : len ≡ 2 = rest-length (drop at file) tag len hd in
         let body = bodyOf (drop at file) len in
         let long : length body ≡ 2 = f .long ∙ two in

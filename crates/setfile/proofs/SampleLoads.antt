@@ -10,18 +10,19 @@ use Rattle.scan.specs.Shape.{countTests}
 use Rattle.scan.specs.Samples.{P}
 use Rattle.loader.specs.declared.loader.LoadAnswer.the-variants.{Loaded}
 use Rattle.header.specs.Header.{rawOf, headerOf}
-use Rattle.literal.specs.Literal.{narrows, withLiteral, literalsFrom}
+use Rattle.header.specs.Tag.{namesHigh}
+use Rattle.literal.specs.Literal.{narrows, wides, withLiteral, literalsFrom}
 use Rattle.loader.specs.Load.{countsAt, nameField, kindOf, readField, readOf, readAt, readsFrom, outputOf, outputAt, outputsFrom, restAt, constraintAt, constraintsFrom, loadFrom, loadOf}
-use Rattle.writer.specs.Write.{readLiteral, outputLiteral, literalBody, fieldsOf, restField, writeOf}
+use Rattle.writer.specs.Write.{readLiteral, outputLiteral, literalsBy, fieldsOf, restField, writeOf}
 use Rattle.setfile.specs.SampleFile.{fileP}
 
 -- The file loads to P.
 pub P-loads : loadOf fileP ≡ record { answer = Loaded; set = P }
 unfolding all firstFrom first zeroSet nameByte allNameBytes spelling sameName readNamed firstRead outputNamed firstOutput isUsed
-    countTests rawOf headerOf narrows withLiteral literalsFrom countsAt nameField kindOf readField readOf readAt readsFrom outputOf outputAt outputsFrom restAt constraintAt constraintsFrom loadFrom loadOf
+    countTests rawOf headerOf namesHigh narrows wides withLiteral literalsFrom countsAt nameField kindOf readField readOf readAt readsFrom outputOf outputAt outputsFrom restAt constraintAt constraintsFrom loadFrom loadOf
 P-loads = refl
 
 -- P's file is the file.
 pub P-written : writeOf P ≡ fileP
-unfolding zeroSet odd bit firstFrom first nameLength nameBytes readLiteral outputLiteral joined literalBody fieldsOf restField writeOf
+unfolding zeroSet odd bit firstFrom first nameLength nameBytes readLiteral outputLiteral namesHigh joined literalsBy fieldsOf restField writeOf
 P-written = refl

@@ -6,6 +6,7 @@ use mathlib.Core.List.{List, [], _∷_, _++_}
 use Prim.Native.Nat.{ℕ, suc, _+_, _≤_}
 use native.Mathlib.Omega.{arith}
 use lib.ListN.{length, getD, take, drop}
+use borrow.Author.Tests.{eqb-false}
 use Rattle.words.specs.Loop.{every}
 use Rattle.scan.specs.declared.set.ReadPoint.{ReadPoint}
 use Rattle.scan.specs.declared.set.OutputPoint.{OutputPoint}
@@ -22,7 +23,7 @@ use Rattle.header.specs.Bytes.{Bytes}
 use Rattle.header.specs.Header.{headerOf, bodyOf, fitsTable}
 use Rattle.loader.specs.Load.{Loading, goingOn, thenFrom, andThen, fieldDone, fieldBy, ofCounts, goodIf, countsTold, countsMade, countsAt, readsFrom, outputsFrom, restAt, constraintsFrom}
 use Rattle.loader.specs.Load.{afterCounts, afterReads, afterOutputs, afterRest, answerOf, loadFrom, loadOf}
-use Rattle.writer.specs.Write.{fieldOf, fieldsOf, readBody, outputBody, literalBody, restField, writeOf}
+use Rattle.writer.specs.Write.{fieldOf, fieldsOf, readBody, outputBody, constraintTag, literalBody, readTag, outputTag, restField, writeOf}
 use Rattle.header.proofs.HeaderLaws.{table-bounds, due-is}
 use Rattle.setfile.proofs.Fields.{two-bytes, found}
 use Rattle.setfile.proofs.FieldRuns.{Done, run-taken}
@@ -59,7 +60,7 @@ counted file bytes at e = by-header (headerOf file 1 0) refl e
     by-test tag len hd false t u = let z : _≡_ {A = ℕ} 0 1 = cc in absurd (omega arith)
     by-test tag len hd true t u =
         let f = found file 0 1 0 tag len bytes hd in
-        let one : tag ≡ 1 = due-is 1 tag refl (f .awaited) in
+        let one : tag ≡ 1 = due-is 1 tag (eqb-false 1 4 refl) (f .awaited) in
         let bounds = table-bounds 1 len (ap (λ (x : ℕ). fitsTable x len) (sym one) ∙ f .table) in
         let two : len ≡ 2 = omega (arith, bounds) in
         let r = getD (bodyOf file len) 0 0 in
@@ -130,10 +131,10 @@ module _ (file : List ℕ) (bytes : Bytes file) (last : ℕ) (c : Counted file) 
                   file-parts s
                   ∙ sym (c .written
                   ∙ ap (λ (l : List ℕ). fieldOf 1 (r ∷ n ∷ []) ++ l) (a .written
-                  ∙ ap (λ (l : List ℕ). fieldsOf 2 readBody (take r reads) ++ l) (b .written
-                  ∙ ap (λ (l : List ℕ). fieldsOf 3 outputBody (take n outputs) ++ l) (w .written
+                  ∙ ap (λ (l : List ℕ). fieldsOf readTag readBody (take r reads) ++ l) (b .written
+                  ∙ ap (λ (l : List ℕ). fieldsOf outputTag outputBody (take n outputs) ++ l) (w .written
                   ∙ ap (λ (l : List ℕ). restField word ++ l) (d .written
-                  ∙ ap (λ (l : List ℕ). fieldsOf 4 literalBody (take m full) ++ l) (stop .0))))));
+                  ∙ ap (λ (l : List ℕ). fieldsOf constraintTag literalBody (take m full) ++ l) (stop .0))))));
               formed =
                   whole-formed s
                   (record {

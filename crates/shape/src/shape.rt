@@ -288,6 +288,8 @@ pub fn well_formed(set: Set) -> bool
     let n = set.n;
     let m = set.m;
     if are_counts_ok(r, n, m) {
+        // the constraints first: the set is then copied once less
+        let fine = are_constraints_ok(set);
         let reads = set.reads;
         let outputs = set.outputs;
         let names = names_of_reads(reads);
@@ -296,7 +298,7 @@ pub fn well_formed(set: Set) -> bool
             are_reads_ok(&names, reads, r, n),
             both(
                 are_outputs_ok(&names, r, &own, n),
-                both(are_constraints_ok(set), words::fits16(set.rest, n)),
+                both(fine, words::fits16(set.rest, n)),
             ),
         );
     }

@@ -239,7 +239,7 @@ module _ (s : Set) where
   kind-line-most name (PastOutput i) = past-most name (outputPoint (s .outputs) i .name)
   kind-line-most name (PastSensor i) = past-most name (readPoint (s .reads) i .name)
 
-  never-line-most : (c : Constraint) → length (lineBytes (neverLine s c)) ≤ 794
+  never-line-most : (c : Constraint) → length (lineBytes (neverLine s c)) ≤ 862
   unfolding neverLine
   never-line-most c =
       let r = joined mostReads (readLiteral s c) in
@@ -276,7 +276,7 @@ module _ (s : Set) where
         lines-most (readLine s) 26 (λ p. kind-line-most (p .name) (p .kind)) (take (s .r) (s .reads)),
         length-take (s .r) (s .reads),
         joined-lines-most (restLine s) 14 rest-line-most mostOutputs,
-        lines-most (neverLine s) 794 never-line-most (take (s .m) (s .constraints)),
+        lines-most (neverLine s) 862 never-line-most (take (s .m) (s .constraints)),
         length-take (s .m) (s .constraints),
         c .r-le,
         c .n-le,

@@ -21,6 +21,9 @@ const WRITE: u8 = 4;
 
 const TEXT: u8 = 5;
 
+// The longest file that is read, and room for any that is written.
+const MOST_FILE: usize = 8192;
+
 // The bytes of one scan: the sensor word and the request.
 const SCAN_BYTES: usize = 6;
 
@@ -176,10 +179,16 @@ fn write_often(set: Set, times: u32, buf: &mut [u8]) -> u32 {
     let mut left = times;
     while 0 < left {
         sum = mix_written(sum, writer::write(set, &mut *buf));
-        sum = mix_byte(sum, &*buf, (left % 4096) as usize);
+        sum = mix_byte(sum, &*buf, (left % 8192) as usize);
         left = left - 1;
     }
     sum
+}
+
+// With room for the file of any set.
+fn write_set(set: Set, times: u32) -> u32 {
+    let mut buf = [0u8; MOST_FILE];
+    write_often(set, times, &mut buf)
 }
 
 // The set's text put over and over into one buffer, in the same way.
@@ -214,7 +223,7 @@ fn do_often(operation: u8, times: u32, file: &[u8]) -> u32 {
         return load_often(file, times);
     }
     if operation == WRITE {
-        return write_often(set, times, &mut lent);
+        return write_set(set, times);
     }
     if operation == TEXT {
         return text_set(set, times);
@@ -224,12 +233,12 @@ fn do_often(operation: u8, times: u32, file: &[u8]) -> u32 {
 
 fn main() {
     let mut head = [0u8; 7];
-    let mut file = io::buffer();
+    let mut file = [0u8; MOST_FILE];
     io::read_full(0, &mut head);
     let times = four(head[1], head[2], head[3], head[4]);
     let len = two(head[5], head[6]) as usize;
     fill(&mut file, len);
-    if len <= 4096 {
+    if len <= MOST_FILE {
         let sum = do_often(head[0], times, &file[0..len]);
         io::print_decimal(1, sum as u64);
         io::write_all(1, b"\n");

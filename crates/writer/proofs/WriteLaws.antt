@@ -22,7 +22,7 @@ use Rattle.scan.specs.declared.set.Set.{Set}
 use Rattle.scan.specs.Set.{noRead, noOutput, noConstraint}
 use Rattle.scan.specs.Names.{nameBytes}
 use Rattle.scan.specs.Shape.{wellFormed}
-use Rattle.writer.specs.Write.{fieldOf, kindBytes, readBody, outputBody, literalBody, fieldsOf, restBody, restField, writeOf, writeAnswer, bufferAfter}
+use Rattle.writer.specs.Write.{fieldOf, kindBytes, readBody, outputBody, constraintTag, literalBody, readTag, outputTag, fieldsOf, restBody, restField, writeOf, writeAnswer, bufferAfter}
 use Rattle.writer.specs.way.Write.{readFields, outputFields, constraintFields, putAt, Put}
 use Rattle.writer.specs.declared.writer.Written.the-variants.{Wrote, BadSet, Short}
 
@@ -130,28 +130,28 @@ rest-some rest ne = ap (λ (b : Bool). cond b [] (fieldOf 0x06 (restBody rest)))
 
 -- ---- the fields of a list's elements
 
-module _ {A : Type 0} (tag : ℕ) (body : A → List ℕ) where
+module _ {A : Type 0} (tag : A → ℕ) (body : A → List ℕ) where
   pub fields-append : (xs ys : List A) → fieldsOf tag body (xs ++ ys) ≡ fieldsOf tag body xs ++ fieldsOf tag body ys
   unfolding fieldsOf
   fields-append [] ys = refl
   fields-append (x ∷ xs) ys =
-      ap (λ (l : List ℕ). fieldOf tag (body x) ++ l) (fields-append xs ys)
-      ∙ sym (append-assoc (fieldOf tag (body x)) (fieldsOf tag body xs) (fieldsOf tag body ys))
+      ap (λ (l : List ℕ). fieldOf (tag x) (body x) ++ l) (fields-append xs ys)
+      ∙ sym (append-assoc (fieldOf (tag x) (body x)) (fieldsOf tag body xs) (fieldsOf tag body ys))
 
   -- one field more
   pub fields-more : (xs : List A) (k : ℕ) (d : A) → k < length xs
-      → fieldsOf tag body (take (k + 1) xs) ≡ fieldsOf tag body (take k xs) ++ fieldOf tag (body (getD xs k d))
+      → fieldsOf tag body (take (k + 1) xs) ≡ fieldsOf tag body (take k xs) ++ fieldOf (tag (getD xs k d)) (body (getD xs k d))
   unfolding fieldsOf
   fields-more xs k d h =
       ap (λ (j : ℕ). fieldsOf tag body (take j xs)) (add-one k)
       ∙ ap (fieldsOf tag body) (take-suc xs k d h)
       ∙ fields-append (take k xs) (getD xs k d ∷ [])
-      ∙ ap (λ (l : List ℕ). fieldsOf tag body (take k xs) ++ l) (append-nil (fieldOf tag (body (getD xs k d))))
+      ∙ ap (λ (l : List ℕ). fieldsOf tag body (take k xs) ++ l) (append-nil (fieldOf (tag (getD xs k d)) (body (getD xs k d))))
 
 -- ---- loops that put one part behind the other
 
-pub fields-grow : {A : Type 0} (tag : ℕ) (body : A → List ℕ) (xs : List A) (n : ℕ) (d : A) → n ≤ length xs
-    → Grows (λ k. fieldsOf tag body (take k xs)) (λ k. fieldOf tag (body (getD xs k d))) n
+pub fields-grow : {A : Type 0} (tag : A → ℕ) (body : A → List ℕ) (xs : List A) (n : ℕ) (d : A) → n ≤ length xs
+    → Grows (λ k. fieldsOf tag body (take k xs)) (λ k. fieldOf (tag (getD xs k d)) (body (getD xs k d))) n
 unfolding fieldsOf
 fields-grow tag body xs n d few = record { none = refl; one = λ k h. fields-more tag body xs k d (omega arith) }
 
@@ -211,13 +211,13 @@ module _ {whole more : ℕ → List ℕ} {n : ℕ} (g : Grows whole more n) wher
 -- ---- the parts of the file
 
 pub reads-grow : (reads : List ReadPoint) (r : ℕ) → r ≤ length reads → Grows (readFields reads) (λ k. fieldOf 0x02 (readBody (getD reads k noRead))) r
-reads-grow reads r few = fields-grow 0x02 readBody reads r noRead few
+reads-grow reads r few = fields-grow readTag readBody reads r noRead few
 
 pub outputs-grow : (outputs : List OutputPoint) (n : ℕ) → n ≤ length outputs → Grows (outputFields outputs) (λ k. fieldOf 0x03 (outputBody (getD outputs k noOutput))) n
-outputs-grow outputs n few = fields-grow 0x03 outputBody outputs n noOutput few
+outputs-grow outputs n few = fields-grow outputTag outputBody outputs n noOutput few
 
-pub constraints-grow : (constraints : List Constraint) (m : ℕ) → m ≤ length constraints → Grows (constraintFields constraints) (λ k. fieldOf 0x04 (literalBody (getD constraints k noConstraint))) m
-constraints-grow constraints m few = fields-grow 0x04 literalBody constraints m noConstraint few
+pub constraints-grow : (constraints : List Constraint) (m : ℕ) → m ≤ length constraints → Grows (constraintFields constraints) (λ k. fieldOf (constraintTag (getD constraints k noConstraint)) (literalBody (getD constraints k noConstraint))) m
+constraints-grow constraints m few = fields-grow constraintTag literalBody constraints m noConstraint few
 
 -- the file's length, part by part
 pub file-long : (s : Set) → length (writeOf s) ≡ 8 + length (readFields (s .reads) (s .r)) + length (outputFields (s .outputs) (s .n)) + length (restField (s .rest)) + length (constraintFields (s .constraints) (s .m))

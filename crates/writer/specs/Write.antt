@@ -1,7 +1,7 @@
 -- Writing: the file of a set, the answer, and the buffer at exit.
 -- Assumes nothing.
 use Prim.Native.Nat.{ℕ, _+_, _/_, _%_}
-use mathlib.Core.Bool.{cond, not, _&&_}
+use mathlib.Core.Bool.{Bool, cond, not, _&&_}
 use mathlib.Core.List.{List, [], _∷_, _++_}
 use lib.Dec.{eqb, leb, ltb}
 use lib.ListN.{length, take, drop}
@@ -16,6 +16,7 @@ use Rattle.scan.specs.declared.set.Set.{Set}
 use Rattle.scan.specs.Set.{mostReads, mostOutputs, rank}
 use Rattle.scan.specs.Names.{nameBytes}
 use Rattle.scan.specs.Shape.{wellFormed}
+use Rattle.header.specs.Tag.{tagBy, namesHigh}
 use Rattle.writer.specs.declared.writer.Written.{Written}
 use Rattle.writer.specs.declared.writer.Written.the-variants.{Wrote, BadSet, Short}
 
@@ -39,24 +40,44 @@ readBody p = kindBytes (p .kind) ++ nameBytes (p .name)
 abbrev pub outputBody : OutputPoint → List ℕ
 outputBody p = nameBytes (p .name)
 
+-- the bytes of a literal: bits 7 and 6 with the number, and the rank; in a wide constraint the number has a byte of its own
+abbrev pub literalBytes : Bool → ℕ → ℕ → ℕ → List ℕ
+literalBytes wide flags number rank = cond wide (flags ∷ number ∷ rank ∷ []) ((flags + number) ∷ rank ∷ [])
+
 -- the literal of read point k, if the constraint has one
-unfoldable pub readLiteral : Constraint → ℕ → List ℕ
-readLiteral c k =
-    cond (bit k (c .«read_plain»)) (k ∷ 0 ∷ []) (cond (bit k (c .«read_negated»)) ((0x80 + k) ∷ 0 ∷ []) [])
+unfoldable pub readLiteral : Bool → Constraint → ℕ → List ℕ
+readLiteral wide c k =
+    cond (bit k (c .«read_plain»)) (literalBytes wide 0 k 0) (cond (bit k (c .«read_negated»)) (literalBytes wide 0x80 k 0) [])
 
 -- the literal of output k, if the constraint has one
-unfoldable pub outputLiteral : Constraint → ℕ → List ℕ
-outputLiteral c k =
-    cond (bit k (c .«out_plain»)) ((0x40 + k) ∷ rank c k ∷ []) (cond (bit k (c .«out_negated»)) ((0xC0 + k) ∷ rank c k ∷ []) [])
+unfoldable pub outputLiteral : Bool → Constraint → ℕ → List ℕ
+outputLiteral wide c k =
+    cond (bit k (c .«out_plain»)) (literalBytes wide 0x40 k (rank c k)) (cond (bit k (c .«out_negated»)) (literalBytes wide 0xC0 k (rank c k)) [])
 
--- the body of a constraint: its read literals by number, then its output literals by number
-unfoldable pub literalBody : Constraint → List ℕ
-literalBody c = joined mostReads (readLiteral c) ++ joined mostOutputs (outputLiteral c)
+-- the literals of a constraint, in wide form or not: those of read points by number, then those of outputs by number
+unfoldable pub literalsBy : Bool → Constraint → List ℕ
+literalsBy wide c = joined mostReads (readLiteral wide c) ++ joined mostOutputs (outputLiteral wide c)
+
+-- the tag of a constraint: 0x07 where it names a read point above 15, else 0x04
+abbrev pub constraintTag : Constraint → ℕ
+constraintTag c = tagBy (namesHigh c)
+
+-- its body
+abbrev pub literalBody : Constraint → List ℕ
+literalBody c = literalsBy (namesHigh c) c
+
+-- the tag of a read point
+abbrev pub readTag : ReadPoint → ℕ
+readTag p = 0x02
+
+-- the tag of an output
+abbrev pub outputTag : OutputPoint → ℕ
+outputTag p = 0x03
 
 -- the fields of a list's elements, one after the other
-unfoldable pub fieldsOf : {A : Type 0} → ℕ → (A → List ℕ) → List A → List ℕ
+unfoldable pub fieldsOf : {A : Type 0} → (A → ℕ) → (A → List ℕ) → List A → List ℕ
 fieldsOf tag body [] = []
-fieldsOf tag body (p ∷ ps) = fieldOf tag (body p) ++ fieldsOf tag body ps
+fieldsOf tag body (p ∷ ps) = fieldOf (tag p) (body p) ++ fieldsOf tag body ps
 
 -- the body of the rest word: two bytes, the high one first
 abbrev pub restBody : ℕ → List ℕ
@@ -66,14 +87,14 @@ restBody rest = rest / 256 ∷ rest % 256 ∷ []
 unfoldable pub restField : ℕ → List ℕ
 restField rest = let field = fieldOf 0x06 (restBody rest) in cond (eqb rest 0) [] field
 
--- one 0x01, r of 0x02, n of 0x03, the rest word, m of 0x04, one 0x05
+-- one 0x01, r of 0x02, n of 0x03, the rest word, m of 0x04 or 0x07, one 0x05
 unfoldable pub writeOf : Set → List ℕ
 writeOf s =
     fieldOf 0x01 (s .r ∷ s .n ∷ [])
-    ++ fieldsOf 0x02 readBody (take (s .r) (s .reads))
-    ++ fieldsOf 0x03 outputBody (take (s .n) (s .outputs))
+    ++ fieldsOf readTag readBody (take (s .r) (s .reads))
+    ++ fieldsOf outputTag outputBody (take (s .n) (s .outputs))
     ++ restField (s .rest)
-    ++ fieldsOf 0x04 literalBody (take (s .m) (s .constraints))
+    ++ fieldsOf constraintTag literalBody (take (s .m) (s .constraints))
     ++ fieldOf 0x05 []
 
 -- ---- writing it into a buffer

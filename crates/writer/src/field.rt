@@ -1,9 +1,11 @@
 // Writing one field: its bytes are put straight into the lent buffer, and the place behind them is handed back. The buffer has room for them.
-use header::TAG_CONSTRAINT;
 use header::TAG_COUNTS;
 use header::TAG_OUTPUT;
 use header::TAG_READ;
 use header::TAG_REST;
+use header::literal_size;
+use header::names_high;
+use header::tag_by;
 use scan::Constraint;
 use scan::Kind;
 use scan::MOST_READS;
@@ -17,17 +19,25 @@ ghost use Prim.Native.Nat.{_+_, _*_, _/_, _%_, _^_, _≤_, _<_};
 ghost use lib.ListN.{length};
 ghost use Rattle.scan.specs.Set.{mostReads, mostOutputs, namePlaces};
 ghost use Rattle.scan.specs.Names.{nameBytes};
-ghost use Rattle.writer.specs.Write.{fieldOf, kindBytes, readBody, outputBody, literalBody, restField};
+ghost use Rattle.writer.specs.Write.{fieldOf, kindBytes, readBody, outputBody, literalBytes, literalsBy, constraintTag, literalBody, restField};
 ghost use Rattle.writer.specs.way.Write.{FewPoints, signedBy, literalsAt, Put};
 
-// The length of a constraint's body: two bytes for each literal.
-pub fn literals_length(c: Constraint) -> usize
+// The length of a constraint's literals, in wide form or not.
+fn literals_length(c: Constraint, wide: bool) -> usize
     requires { ⌜ FewPoints c ⌝ }
-    ensures { λ r. ⌜ (r ≡ length (literalBody c)) × (r ≤ 2 * (mostReads + mostOutputs)) ⌝ }
+    ensures { λ r. ⌜ (r ≡ length (literalsBy wide c)) × (r ≤ 3 * (mostReads + mostOutputs)) ⌝ }
 {
     let reads = u32::count_ones(c.read_plain | c.read_negated);
     let outputs = u16::count_ones(c.out_plain | c.out_negated);
-    2 * (reads as usize + outputs as usize)
+    literal_size(wide) * (reads as usize + outputs as usize)
+}
+
+// The length of a constraint's body.
+pub fn body_length(c: Constraint) -> usize
+    requires { ⌜ FewPoints c ⌝ }
+    ensures { λ r. ⌜ (r ≡ length (literalBody c)) × (r ≤ 3 * (mostReads + mostOutputs)) ⌝ }
+{
+    literals_length(c, names_high(c))
 }
 
 fn put_two(buf: &mut [u8], at: usize, first: u8, second: u8) -> usize
@@ -39,15 +49,28 @@ fn put_two(buf: &mut [u8], at: usize, first: u8, second: u8) -> usize
     at + 2
 }
 
+fn put_three(buf: &mut [u8], at: usize, first: u8, second: u8, third: u8) -> usize
+    requires { ⌜ at + 3 ≤ length (now buf) ⌝ }
+    ensures { λ r. ⌜ Put (now (buf .entry)) at (first ∷ second ∷ third ∷ []) (now (buf .exit)) r ⌝ }
+{
+    buf[at] = first;
+    buf[at + 1] = second;
+    buf[at + 2] = third;
+    at + 3
+}
+
 // The header of a field whose body has `len` bytes.
 pub fn put_header(buf: &mut [u8], at: usize, tag: u8, len: usize) -> usize
     requires { ⌜ (at + 3 ≤ length (now buf)) × (len < 65536) ⌝ }
     ensures { λ r. ⌜ Put (now (buf .entry)) at (tag ∷ len / 256 ∷ len % 256 ∷ []) (now (buf .exit)) r ⌝ }
 {
-    buf[at] = tag;
-    buf[at + 1] = (len / 256 % 256) as u8;
-    buf[at + 2] = (len % 256) as u8;
-    at + 3
+    put_three(
+        &mut *buf,
+        at,
+        tag,
+        (len / 256 % 256) as u8,
+        (len % 256) as u8,
+    )
 }
 
 // The `len` bytes of a name.
@@ -120,47 +143,77 @@ pub fn put_rest(buf: &mut [u8], at: usize, rest: u16) -> usize
     put_two(&mut *buf, body, (rest / 256) as u8, (rest % 256) as u8)
 }
 
-// The number of a literal's point, with the top bit set where it is negated.
-fn signed(plain: bool, number: u8) -> u8
-    requires { ⌜ number < 0x80 ⌝ }
-    ensures { λ r. ⌜ r ≡ signedBy plain number ⌝ }
+// The flags of a literal's point, with the top bit set where it is negated.
+fn signed(plain: bool, flags: u8) -> u8
+    requires { ⌜ flags ≤ 0x40 ⌝ }
+    ensures { λ r. ⌜ (r ≡ signedBy plain flags) × (r ≤ 0xC0) ⌝ }
 {
-    if plain { number } else { 0x80 + number }
+    if plain { flags } else { 0x80 + flags }
 }
 
-// The literals of the points that are named, numbered from `base` on, each with its rank. Each turn takes the lowest point that is left.
-fn put_literals(buf: &mut [u8], at: usize, base: u8, plain: u32, named: u32, ranks: &[u8]) -> usize
-    requires { ⌜ (base ≤ 0x40) × (length (now ranks) < 32) × (named < 2 ^ length (now ranks)) × (at + length (literalsAt base plain named (now ranks)) ≤ length (now buf)) ⌝ }
-    ensures { λ r. ⌜ Put (now (buf .entry)) at (literalsAt base plain named (now (ranks .entry))) (now (buf .exit)) r ⌝ }
+// One literal, of three bytes in a wide constraint, else of two.
+fn put_literal(buf: &mut [u8], at: usize, wide: bool, flags: u8, number: u8, rank: u8) -> usize
+    requires { ⌜ (flags + number < 256) × (at + length (literalBytes wide flags number rank) ≤ length (now buf)) ⌝ }
+    ensures { λ r. ⌜ Put (now (buf .entry)) at (literalBytes wide flags number rank) (now (buf .exit)) r ⌝ }
+{
+    if wide {
+        return put_three(&mut *buf, at, flags, number, rank);
+    }
+    put_two(&mut *buf, at, flags + number, rank)
+}
+
+// The literals of the points that are named, each with its rank. Each turn takes the lowest point that is left.
+fn put_literals(
+    buf: &mut [u8],
+    at: usize,
+    wide: bool,
+    flags: u8,
+    plain: u32,
+    named: u32,
+    ranks: &[u8],
+) -> usize
+    requires { ⌜ (flags ≤ 0x40) × (length (now ranks) < 32) × (named < 2 ^ length (now ranks)) × (at + length (literalsAt wide flags plain named (now ranks)) ≤ length (now buf)) ⌝ }
+    ensures { λ r. ⌜ Put (now (buf .entry)) at (literalsAt wide flags plain named (now (ranks .entry))) (now (buf .exit)) r ⌝ }
 {
     let mut next = at;
     let mut left = named;
     while 0 < left {
         let k = u32::trailing_zeros(left) as usize;
-        let number = signed((plain >> k) % 2 == 1, base + k as u8);
-        next = put_two(&mut *buf, next, number, ranks[k]);
+        let own = signed((plain >> k) % 2 == 1, flags);
+        next = put_literal(&mut *buf, next, wide, own, k as u8, ranks[k]);
         left = left & (left - 1);
     }
     next
 }
 
-// The field of a constraint.
-pub fn put_constraint(buf: &mut [u8], at: usize, c: Constraint) -> usize
-    requires { ⌜ FewPoints c × (at + length (fieldOf 0x04 (literalBody c)) ≤ length (now buf)) ⌝ }
-    ensures { λ x. ⌜ Put (now (buf .entry)) at (fieldOf 0x04 (literalBody c)) (now (buf .exit)) x ⌝ }
+// The literals of a constraint, in wide form or not: those of read points, then those of outputs.
+fn put_body(buf: &mut [u8], at: usize, c: Constraint, wide: bool) -> usize
+    requires { ⌜ FewPoints c × (at + length (literalsBy wide c) ≤ length (now buf)) ⌝ }
+    ensures { λ x. ⌜ Put (now (buf .entry)) at (literalsBy wide c) (now (buf .exit)) x ⌝ }
 {
     let unranked = [0u8; MOST_READS];
     let ranks = c.ranks;
     let reads = c.read_plain | c.read_negated;
     let outputs = c.out_plain | c.out_negated;
-    let body = put_header(&mut *buf, at, TAG_CONSTRAINT, literals_length(c));
-    let next = put_literals(&mut *buf, body, 0, c.read_plain, reads, &unranked);
+    let next = put_literals(&mut *buf, at, wide, 0, c.read_plain, reads, &unranked);
     put_literals(
         &mut *buf,
         next,
+        wide,
         0x40,
         c.out_plain as u32,
         outputs as u32,
         &ranks,
     )
+}
+
+// The field of a constraint.
+pub fn put_constraint(buf: &mut [u8], at: usize, c: Constraint) -> usize
+    requires { ⌜ FewPoints c × (at + length (fieldOf (constraintTag c) (literalBody c)) ≤ length (now buf)) ⌝ }
+    ensures { λ x. ⌜ Put (now (buf .entry)) at (fieldOf (constraintTag c) (literalBody c)) (now (buf .exit)) x ⌝ }
+{
+    let wide = names_high(c);
+    let len = literals_length(c, wide);
+    let body = put_header(&mut *buf, at, tag_by(wide), len);
+    put_body(&mut *buf, body, c, wide)
 }

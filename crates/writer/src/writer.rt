@@ -1,5 +1,5 @@
 // Writing: the length of the file is counted first, and then each field is put into the lent buffer.
-use super::field::literals_length;
+use super::field::body_length;
 use super::field::put_constraint;
 use super::field::put_counts;
 use super::field::put_header;
@@ -102,13 +102,13 @@ fn rest_length(rest: u16) -> usize
 
 fn constraints_length(constraints: [Constraint; MOST_CONSTRAINTS], m: usize) -> usize
     requires { ⌜ (m ≤ mostConstraints) × ((i : ℕ) → i < m → FewPoints (getD constraints i noConstraint)) ⌝ }
-    ensures { λ x. ⌜ (x ≡ length (constraintFields constraints m)) × (x ≤ mostConstraints * (3 + 2 * (mostReads + mostOutputs))) ⌝ }
+    ensures { λ x. ⌜ (x ≡ length (constraintFields constraints m)) × (x ≤ mostConstraints * (3 + 3 * (mostReads + mostOutputs))) ⌝ }
 {
     let mut len: usize = 0;
     let mut i: usize = 0;
     while i < m {
         let c = constraints[i];
-        len = len + 3 + literals_length(c);
+        len = len + 3 + body_length(c);
         i = i + 1;
     }
     len

@@ -1,7 +1,7 @@
 //! `program` prints the verdict program's line for standard input, and
 //! `program input` the long file that the verdict program is tried with.
 
-use reference::corpus::long::program_input;
+use reference::corpus::fronts::program_input;
 use reference::program::line;
 use std::io::{Read, Write};
 use std::process::ExitCode;

@@ -1,6 +1,8 @@
 //! Sets made by hand, as they lie in memory: some well formed, most of them
 //! broken in one place, clause by clause, at first and last places and right
-//! beyond the counts. All of them have rest word 0; `rests` has others.
+//! beyond the counts. All of them have rest word 0; `rests` has others. They
+//! were drawn when there were places for 16 read points, and stay what they
+//! were: of the four places that came later `wide_memory` has such sets.
 
 use super::long::longest;
 use super::names::nearly;
@@ -20,27 +22,44 @@ use crate::set::{Kind, Literal, Point, Set};
 const GOOD_EACH: usize = 6;
 const BY_CHANCE: usize = 20;
 
-/// A good set and how it lies in memory.
-struct Base {
-    set: Set,
-    raw: Vec<u8>,
+/// The places for read points when these sets were drawn, and the bytes that
+/// those that came later have.
+const READS_THEN: usize = 16;
+const LATER: usize = 10 * (READS - READS_THEN);
+
+/// A good set, how it lies in memory, and how many places for read points it is
+/// broken in.
+pub struct Base {
+    pub set: Set,
+    pub raw: Vec<u8>,
+    places: usize,
 }
 
 impl Base {
     fn new(set: Set) -> Base {
         let raw = laid_out(&set);
-        Base { set, raw }
+        let places = READS_THEN;
+        Base { set, raw, places }
+    }
+
+    /// The same to be broken in all places.
+    pub fn in_all_places(set: Set) -> Base {
+        let places = READS;
+        Base {
+            places,
+            ..Base::new(set)
+        }
     }
 
     /// The bytes with some overwritten.
-    fn with(&self, at: usize, bytes: &[u8]) -> Vec<u8> {
+    pub fn with(&self, at: usize, bytes: &[u8]) -> Vec<u8> {
         let mut raw = self.raw.clone();
         put(&mut raw, at, bytes);
         raw
     }
 
     /// The bytes with one bit more in a mask that ends before an offset.
-    fn with_bit(&self, end: usize, place: usize) -> Vec<u8> {
+    pub fn with_bit(&self, end: usize, place: usize) -> Vec<u8> {
         let at = end - 1 - place / 8;
         self.with(at, &[self.raw[at] | 1 << (place % 8)])
     }
@@ -93,19 +112,29 @@ pub fn cases(chance: &mut Chance) -> Vec<Case> {
     for _ in 0..BY_CHANCE {
         let set = set(chance, Recipe::Bent, 5, 4, 5);
         let mut raw = laid_out(&set);
-        let at = beside_rest(chance.below(SET_BYTES - 2));
+        let at = place_then(chance.below(SET_BYTES - LATER - 2));
         raw[at] ^= 1 << chance.below(8);
         cases.push(case(chance, &set, raw));
     }
     cases
 }
 
-/// The place of a byte by its number among those that are not the rest word's.
-fn beside_rest(number: usize) -> usize {
+/// The place of a byte by its number among those that are neither the rest
+/// word's nor of places that came later.
+fn place_then(number: usize) -> usize {
+    let last = read_at(READS_THEN) - 2;
     match number {
         0..REST => number,
-        _ => number + 2,
+        number if number < last => number + 2,
+        _ => number + 2 + LATER,
     }
+}
+
+/// A set of one byte all over, but for the places that came later.
+pub fn all_over(byte: u8) -> Vec<u8> {
+    let mut raw = vec![byte; SET_BYTES];
+    put(&mut raw, read_at(READS_THEN), &[0; LATER]);
+    raw
 }
 
 fn p() -> Set {
@@ -175,14 +204,14 @@ pub fn case(chance: &mut Chance, set: &Set, raw: Vec<u8>) -> Case {
 }
 
 /// What changes nothing: other kinds are sensors, whose index is not kept.
-fn not_kept(base: &Base) -> Vec<Vec<u8>> {
+pub fn not_kept(base: &Base) -> Vec<Vec<u8>> {
     let is_sensor = |k: &usize| {
         let point = base.set.reads.get(*k);
         point.is_none_or(|point| point.kind == Kind::Sensor)
     };
     let mut raws = Vec::new();
-    for place in (0..READS).filter(is_sensor) {
-        if place == 0 || place >= READS - 1 || place == base.set.reads.len() {
+    for place in (0..base.places).filter(is_sensor) {
+        if place == 0 || place >= base.places - 1 || place == base.set.reads.len() {
             raws.push(base.with(read_at(place), &[3, 0]));
             raws.push(base.with(read_at(place), &[0, 1]));
             raws.push(base.with(read_at(place), &[255, 255]));
@@ -192,7 +221,7 @@ fn not_kept(base: &Base) -> Vec<Vec<u8>> {
 }
 
 /// All that is made of a set by breaking it in one place.
-fn broken(base: &Base) -> Vec<Vec<u8>> {
+pub fn broken(base: &Base) -> Vec<Vec<u8>> {
     [
         bad_counts(base),
         bad_kinds(base),
@@ -211,7 +240,7 @@ fn broken(base: &Base) -> Vec<Vec<u8>> {
 fn bad_counts(base: &Base) -> Vec<Vec<u8>> {
     let set = &base.set;
     let counts = [
-        (0, set.reads.len(), READS),
+        (0, set.reads.len(), base.places),
         (2, set.outputs.len(), OUTPUTS),
         (4, set.constraints.len(), CONSTRAINTS),
     ];
@@ -291,7 +320,7 @@ fn doubled_names(base: &Base) -> Vec<Vec<u8>> {
 /// A past point, a name or a byte of one beyond the counts.
 fn points_beyond(base: &Base) -> Vec<Vec<u8>> {
     let mut raws = Vec::new();
-    for place in beyond(base.set.reads.len(), READS) {
+    for place in beyond(base.set.reads.len(), base.places) {
         let at = read_at(place);
         raws.push(base.with(at, &[1, 0]));
         raws.push(base.with(at, &[2, 0]));
@@ -396,12 +425,12 @@ fn bad_ranks(base: &Base) -> Vec<Vec<u8>> {
 /// Sets of one byte all over but for the rest word, and P with all three counts
 /// too large.
 fn whole() -> Vec<Vec<u8>> {
-    let all_over = |byte| {
-        let mut raw = vec![byte; SET_BYTES];
+    let unrested = |byte| {
+        let mut raw = all_over(byte);
         put(&mut raw, REST, &[0, 0]);
         raw
     };
-    let mut raws: Vec<Vec<u8>> = [0, 1, b'a', 255].map(all_over).to_vec();
+    let mut raws: Vec<Vec<u8>> = [0, 1, b'a', 255].map(unrested).to_vec();
     let p = Base::new(p());
     raws.push(p.with(0, &[255; 6]));
     raws.push(p.with(0, &[0; 6]));

@@ -31,7 +31,7 @@ const MOST: usize = 64;
 
 /// What a read word is like.
 #[derive(Clone, Debug, PartialEq, Eq)]
-enum Lot {
+pub enum Lot {
     Good,
     Endless,
     /// No vector is safe, and no output is forced both ways.
@@ -41,7 +41,7 @@ enum Lot {
 }
 
 impl Lot {
-    fn of(set: &Set, word: u32) -> Lot {
+    pub fn of(set: &Set, word: u32) -> Lot {
         let reads = bits(word, set.reads.len());
         let pulls = pulls(set, &reads);
         let both: Vec<usize> = (0..pulls.len())
@@ -149,7 +149,7 @@ fn named_both_ways(chance: &mut Chance, r: usize, n: usize) -> Vec<Constraint> {
 
 /// What a set is to be like.
 #[derive(Default)]
-struct Plan {
+pub struct Plan {
     r: usize,
     n: usize,
     /// What some words are to be like.
@@ -162,25 +162,33 @@ struct Plan {
     others: Vec<Constraint>,
     first: Vec<Constraint>,
     last: Vec<Constraint>,
+    /// The most constraints.
+    most: usize,
 }
 
 impl Plan {
-    fn new(r: usize, n: usize, lots: Vec<(u32, Lot)>, decoys: usize) -> Plan {
+    pub fn new(r: usize, n: usize, lots: Vec<(u32, Lot)>, decoys: usize) -> Plan {
         Plan {
             r,
             n,
             lots,
             decoys,
+            most: MOST,
             ..Plan::default()
         }
     }
 
+    /// The same with so many constraints at most.
+    pub fn at_most(self, most: usize) -> Plan {
+        Plan { most, ..self }
+    }
+
     /// A set of this plan.
-    fn set(&self, chance: &mut Chance) -> Set {
+    pub fn set(&self, chance: &mut Chance) -> Set {
         loop {
             let set = self.draft(chance);
             let fits = |(word, lot): &(u32, Lot)| Lot::of(&set, *word) == *lot;
-            if set.constraints.len() <= MOST
+            if set.constraints.len() <= self.most
                 && self.is_told(judge(&set))
                 && self.lots.iter().all(fits)
             {

@@ -2,12 +2,14 @@
 //! it, and what there must be.
 
 use super::marks::{sorts, Pairs};
+use super::misloads;
 use super::misses;
 use super::namings;
+use super::narrow;
 use super::packed;
 use super::skips;
 use super::starts;
-use super::{long, texts};
+use super::{fronts, long, texts};
 use crate::answer::answer;
 use crate::file::load;
 use crate::filter::{holds, pass, start_vector, Holds};
@@ -25,7 +27,7 @@ pub type Counts = BTreeMap<String, usize>;
 pub const MOST_SCANS: usize = 681;
 
 /// What a corpus must have, and how many at least; `skips`, `misses`, `packed`,
-/// `namings` and `starts` have more of it.
+/// `namings`, `starts`, `narrow`, `misloads` and `fronts` have more of it.
 const NEEDED: &[(&str, usize)] = &[
     ("F cases", 5000),
     ("F ACCEPT", 1000),
@@ -63,11 +65,13 @@ const NEEDED: &[(&str, usize)] = &[
     ("F TEXT of 601 bytes", 1),
     ("F TEXT as long as can be", 1),
     ("F TEXT as long as can be at rest word 0", 1),
-    ("F files whose first 4096 bytes are refused otherwise", 10),
+    ("F files whose first 8192 bytes are refused otherwise", 10),
     ("F lists of 100 scans or more", 12),
     ("F lists of scans that are not used", 2),
     ("F longest files", 2),
-    ("F longest files at rest word 0", 2),
+    ("F longest files at rest word 0", 1),
+    ("F longest files of 16 read points", 2),
+    ("F longest files of 16 read points at rest word 0", 2),
     ("F walks of more than 63 passes", 30),
     ("F walks of 4095 passes", 1),
     ("F SCANS that ends at mark 0", 10),
@@ -226,6 +230,9 @@ pub fn missing(counts: &Counts) -> Vec<String> {
         .chain(packed::needed())
         .chain(namings::needed())
         .chain(starts::needed())
+        .chain(narrow::needed())
+        .chain(misloads::needed())
+        .chain(fronts::needed())
         .filter(|(key, least)| !enough(key, *least))
         .map(|(key, _)| key)
         .collect()
@@ -288,9 +295,12 @@ fn sorts_of_line(line: &str) -> Vec<String> {
             .collect(),
         "SCANS" | "STATE" => sorts_of_scans(&words),
         "SCRATCH" => sorts_of_items(words[0], &words[2..]),
-        "FIND" | "NAMES" | "WRITES" | "JUDGES" | "STARTS" | "LINES" | "TEXTS" => {
-            sorts_of_items(words[0], &words[1..])
+        "FIND" | "NAMES" => {
+            let mut sorts = sorts_of_items(words[0], &words[1..]);
+            sorts.extend(narrow::of_items(line));
+            sorts
         }
+        "WRITES" | "JUDGES" | "STARTS" | "LINES" | "TEXTS" => sorts_of_items(words[0], &words[1..]),
         _ => Vec::new(),
     }
 }
@@ -345,21 +355,23 @@ fn sorts_of_case(case: &Case, answer: &str) -> Vec<String> {
             let sorts = sorts_of_file(file, scans, answer);
             let mut sorts: Vec<String> = sorts.into_iter().map(String::from).collect();
             sorts.extend(sorts_from_start(file, scans, answer));
-            sorts.extend(load(file).iter().flat_map(skips::sorts));
-            sorts.extend(load(file).iter().flat_map(misses::sorts));
-            sorts.extend(load(file).iter().flat_map(packed::sorts));
-            sorts.extend(load(file).iter().flat_map(namings::sorts));
+            sorts.extend(load(file).iter().flat_map(sorts_of_set));
+            sorts.extend(misloads::of_file(file));
+            sorts.extend(fronts::of_file(file));
             sorts.extend(sorts_of_rest(file, answer));
             sorts
         }
         Case::State { file, list } => {
             let mut sorts = sorts_of_list(load(file).ok(), list);
-            sorts.extend(group(load(file).ok()));
+            // Verdicts on more read points take long, and no answer has one.
+            let few = load(file).ok().filter(|set| set.reads.len() <= 16);
+            sorts.extend(group(few));
             sorts
         }
         Case::Raw { set, list, .. } => {
             let mut sorts = sorts_of_list(well_formed(set), list);
             sorts.push(sort_of_form(&form(set)));
+            sorts.extend(narrow::of_memory(set));
             sorts.extend(group(well_formed(set)));
             sorts
         }
@@ -368,10 +380,25 @@ fn sorts_of_case(case: &Case, answer: &str) -> Vec<String> {
             sorts.extend(group(load(file).ok()));
             let of_sizes = |set: &Set| namings::of_sizes(set, sizes);
             sorts.extend(load(file).iter().flat_map(of_sizes));
+            let of_sizes = |set: &Set| narrow::of_sizes(set, sizes);
+            sorts.extend(load(file).iter().flat_map(of_sizes));
             sorts
         }
         Case::Names { .. } => Vec::new(),
     }
+}
+
+/// What the set of a file counts as by what it would show.
+fn sorts_of_set(set: &Set) -> Vec<String> {
+    let sorts: [fn(&Set) -> Vec<String>; 6] = [
+        skips::sorts,
+        misses::sorts,
+        packed::sorts,
+        namings::sorts,
+        narrow::of_set,
+        misloads::of_set,
+    ];
+    sorts.iter().flat_map(|sorts| sorts(set)).collect()
 }
 
 /// The sizes with which a verdict was refused by 21 when it needed a byte for
@@ -417,7 +444,7 @@ fn sorts_of_file(file: &[u8], scans: &[Words], answer: &str) -> Vec<&'static str
     }
     let lines: Vec<&str> = answer.lines().collect();
     if lines[1].starts_with("LOAD ") && lines[0] != format!("JUDGE {}", lines[1]) {
-        sorts.push("files whose first 4096 bytes are refused otherwise");
+        sorts.push("files whose first 8192 bytes are refused otherwise");
     }
     if scans.len() >= 100 && answer.contains("SCANS") {
         sorts.push("lists of 100 scans or more");
@@ -430,8 +457,10 @@ fn sorts_of_file(file: &[u8], scans: &[Words], answer: &str) -> Vec<&'static str
 
 fn sort_of_length(file: &[u8]) -> Option<&'static str> {
     match file.len() {
-        long::LONGEST => Some("longest files"),
-        long::LONGEST_AT_REST_0 => Some("longest files at rest word 0"),
+        fronts::LONGEST => Some("longest files"),
+        fronts::LONGEST_AT_REST_0 => Some("longest files at rest word 0"),
+        long::LONGEST => Some("longest files of 16 read points"),
+        long::LONGEST_AT_REST_0 => Some("longest files of 16 read points at rest word 0"),
         _ => None,
     }
 }
@@ -451,6 +480,7 @@ fn sorts_from_start(file: &[u8], scans: &[Words], answer: &str) -> Vec<String> {
         Ok(set) if answer.contains("SCANS") => {
             let mut sorts_of = sorts(&State::fresh(&set), scans);
             sorts_of.extend(starts::from_start(&set, scans));
+            sorts_of.extend(narrow::of_list(&State::fresh(&set), scans));
             sorts_of
         }
         _ => Vec::new(),
@@ -484,6 +514,7 @@ fn sorts_of_list(set: Option<Set>, list: &Option<List>) -> Vec<String> {
         sorts_of.extend(sorts(&state, scans));
         sorts_of.extend(starts::by_hand(&state, scans));
         sorts_of.extend(namings::of_list(&state, scans));
+        sorts_of.extend(narrow::of_list(&state, scans));
         sorts_of.extend(sorts_of_33(state, scans));
     }
     sorts_of

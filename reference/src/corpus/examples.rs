@@ -5,7 +5,7 @@ use crate::file::load;
 use crate::making::scans;
 use crate::records::Case;
 
-const EXAMPLES: [&[u8]; 7] = [
+const EXAMPLES: &[&[u8]] = &[
     include_bytes!("../../../examples/p.set"),
     include_bytes!("../../../examples/parcel-hall.set"),
     include_bytes!("../../../examples/sorting.set"),
@@ -13,6 +13,7 @@ const EXAMPLES: [&[u8]; 7] = [
     include_bytes!("../../../examples/pusher.set"),
     include_bytes!("../../../examples/brake.set"),
     include_bytes!("../../../examples/outfeed.set"),
+    include_bytes!("../../../examples/long-sorter.set"),
 ];
 
 const SCANS_EACH: usize = 60;
@@ -20,7 +21,7 @@ const SCANS_EACH: usize = 60;
 /// Each example with scans; those of a set that is rejected are not used.
 pub fn cases(chance: &mut Chance) -> Vec<Case> {
     let mut cases = Vec::new();
-    for file in EXAMPLES {
+    for &file in EXAMPLES {
         let scans = match load(file) {
             Ok(set) => scans(chance, &set, SCANS_EACH),
             Err(_) => Vec::new(),
@@ -52,6 +53,7 @@ mod tests {
             "JUDGE ACCEPT 3 2 3",
             "JUDGE ACCEPT 2 2 4",
             "JUDGE NOVECTOR 7",
+            "JUDGE ACCEPT 20 4 19",
         ];
         assert_eq!(lines, said);
     }

@@ -1,17 +1,14 @@
-//! Long files: the longest good one, and files of more than 4,096 bytes.
-//!
-//! A good file has at most 3,573 bytes, so that a longer one is refused at a
-//! field that begins there or before, and the loader's answer to its front
-//! changes only once behind byte 3,573: where that field ends. No one file tells
-//! fronts of 4,095, 4,096 and 4,097 bytes apart; two files do, one with a field
-//! that ends at byte 4,096 and one with a field that ends a byte later.
+//! Long files of at most 16 read points: the longest good one, and files of more
+//! than 4,096 bytes, as many as the verdict program took when these were made.
+//! `fronts` has longer ones.
 
 use crate::damage::P;
 use crate::file::{put_field, write};
 use crate::records::Case;
 use crate::set::{Constraint, Kind, Literal, Point, ReadPoint, Set};
 
-/// The bytes of the longest good file, and of the longest without a rest word.
+/// The bytes of the longest good file of at most 16 read points, and of the
+/// longest of these without a rest word.
 pub const LONGEST: usize = 3573;
 pub const LONGEST_AT_REST_0: usize = 3568;
 
@@ -69,17 +66,14 @@ pub fn full_then(full: &Set, tag: u8, end: usize) -> Vec<u8> {
 }
 
 /// Appends a field that ends at an offset.
-fn field_to(file: &mut Vec<u8>, tag: u8, end: usize) {
+pub fn field_to(file: &mut Vec<u8>, tag: u8, end: usize) {
     let body = vec![b'x'; end - file.len() - 3];
     put_field(file, tag, &body);
 }
 
-/// The verdict program's input. Byte 3,565 begins an end field that runs to
-/// byte 4,097: the program, which has 4,096 bytes, answers 1 there, and one
-/// that takes more 4. One that takes less than the field's first byte answers 1
-/// at an earlier field. (With a rest word that byte would be 3,570, and no file
-/// has a later one.) The bytes behind make a second 4,096 bytes full.
-pub fn program_input() -> Vec<u8> {
+/// What the verdict program was tried with when it took 4,096 bytes. Byte 3,565
+/// begins an end field that runs to byte 4,097.
+pub fn long_then() -> Vec<u8> {
     let mut file = full_then(&longest(WORD, false), 5, 4097);
     file.resize(8300, 0);
     file
@@ -106,7 +100,7 @@ pub fn cases() -> Vec<Case> {
     let mut more = write(&full);
     more.push(5);
     cases.push(case(more, scans()));
-    cases.push(case(program_input(), Vec::new()));
+    cases.push(case(long_then(), Vec::new()));
     for tag in [3, 4, 5] {
         for end in [4095, 4096, 4097] {
             cases.push(case(full_then(&full, tag, end), Vec::new()));
@@ -145,26 +139,14 @@ mod tests {
     }
 
     #[test]
-    fn the_program_sees_4096_bytes() {
-        let file = program_input();
-        assert_eq!(line(&file), "LOAD 1 3565\n");
-        let whole = Refusal {
-            number: 4,
-            offset: 3565,
-        };
-        assert_eq!(load(&file), Err(whole));
-        for size in 0..=file.len() {
-            let front = load(&file[..size]).map_err(|r| (r.number, r.offset));
-            let like_the_program = front == Err((1, 3565));
-            assert_eq!(like_the_program, (3565..=4096).contains(&size), "{size}");
-        }
-    }
-
-    #[test]
-    fn fields_that_end_near_byte_4096() {
-        for (end, cut) in [(4095, 4), (4096, 4), (4097, 1)] {
-            let file = full_then(&longest(WORD, false), 5, end);
-            assert_eq!(line(&file), format!("LOAD {cut} 3565\n"));
+    fn the_program_sees_more_than_4096_bytes() {
+        for file in [long_then(), full_then(&longest(WORD, false), 5, 4096)] {
+            assert_eq!(line(&file), "LOAD 4 3565\n");
+            let whole = Refusal {
+                number: 4,
+                offset: 3565,
+            };
+            assert_eq!(load(&file), Err(whole));
         }
     }
 }

@@ -9,12 +9,15 @@ pub mod edges;
 pub mod eights;
 pub mod examples;
 pub mod files;
+pub mod fronts;
 pub mod long;
 pub mod marking;
 pub mod marks;
+pub mod misloads;
 pub mod misses;
 pub mod names;
 pub mod namings;
+pub mod narrow;
 pub mod order;
 pub mod packed;
 pub mod paths;
@@ -26,6 +29,9 @@ pub mod skips;
 pub mod starts;
 pub mod states;
 pub mod texts;
+pub mod wide;
+pub mod wide_files;
+pub mod wide_memory;
 
 use crate::chance::Chance;
 use crate::records::Case;
@@ -56,7 +62,13 @@ pub fn corpus(seed: u64) -> Vec<Case> {
     cases.extend(resting(seed));
     cases.extend(packing(seed));
     cases.extend(clashing(seed));
+    cases.extend(widening(seed));
     cases
+}
+
+/// The part of the sets with 17 to 20 read points.
+pub fn widening(seed: u64) -> Vec<Case> {
+    wide::cases(&mut part(seed, 16))
 }
 
 /// The part of the sets whose simple constraints contradict.

@@ -21,6 +21,9 @@ use std::collections::HashSet;
 /// are no part of those counts.
 const MOST_RECKONED: usize = 7;
 
+/// And more than these where the masks of all words are counted.
+const MOST_MASKS: usize = 16;
+
 /// An output literal of a constraint, and the place of that in the file.
 struct Pull<'a> {
     place: usize,
@@ -689,10 +692,10 @@ fn sorts_of_clash(set: &Set, word: u32, output: usize) -> Vec<String> {
         ),
         (
             "more than 251 masks up to it",
-            word >= PLACES as u32 && masks().len() > PLACES as usize,
+            r <= MOST_MASKS && word >= PLACES as u32 && masks().len() > PLACES as usize,
         ),
-        ("the last word of 16 read points", word == 0xFFFF),
-        ("a word above 32767", word > 0x7FFF),
+        ("the last word of 16 read points", r == 16 && word == 0xFFFF),
+        ("a word above 32767", r <= 16 && word > 0x7FFF),
     ];
     let is = is.iter().filter(|(_, is)| *is);
     let mut sorts: Vec<String> = is.map(|(sort, _)| sort.to_string()).collect();

@@ -505,7 +505,7 @@ fn with_word(set: &Set, word: u16) -> Vec<u8> {
 
 /// Sets of one byte all over, and all zero but for the rest word.
 fn whole() -> Vec<Vec<u8>> {
-    let mut raws: Vec<Vec<u8>> = [1, 255].map(|byte| vec![byte; SET_BYTES]).to_vec();
+    let mut raws: Vec<Vec<u8>> = [1, 255].map(broken::all_over).to_vec();
     let mut zero = vec![0; SET_BYTES];
     put(&mut zero, REST, &[0, 1]);
     raws.push(zero);

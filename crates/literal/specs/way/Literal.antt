@@ -3,16 +3,22 @@
 use Prim.Native.Nat.{ℕ, _+_, _%_, _/_, _^_}
 use mathlib.Core.Bool.{Bool, cond}
 use mathlib.Core.List.{List}
-use lib.Dec.{ltb}
+use lib.Dec.{leb}
 use lib.ListN.{length, getD}
 use Rattle.scan.specs.declared.set.Constraint.{Constraint}
 use Rattle.scan.specs.Set.{mostReads, mostOutputs}
 use Rattle.literal.specs.declared.literal.Said.{Said}
-use Rattle.literal.specs.Literal.{narrow, torn, withBit}
+use Rattle.header.specs.Tag.{literalSize}
+use Rattle.literal.specs.Literal.{narrow, wide, torn, withBit}
 
--- the literal at place i of a body
-abbrev pub saidAt : List ℕ → ℕ → Said
-saidAt body i = cond (ltb (i + 1) (length body)) (narrow (getD body i 0) (getD body (i + 1) 0)) torn
+-- the literal that begins at place i of a body, wide or not
+abbrev pub literalAt : Bool → List ℕ → ℕ → Said
+literalAt isWide body i =
+    cond isWide (wide (getD body i 0) (getD body (i + 1) 0) (getD body (i + 2) 0)) (narrow (getD body i 0) (getD body (i + 1) 0))
+
+-- that literal where the body goes so far, else what is torn
+abbrev pub saidAt : Bool → List ℕ → ℕ → Said
+saidAt isWide body i = cond (leb (i + literalSize isWide) (length body)) (literalAt isWide body i) torn
 
 -- the bits of a word for the literals of one sign: no fewer than the places of literals
 abbrev pub signBits : ℕ

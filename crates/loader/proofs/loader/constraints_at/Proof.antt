@@ -108,16 +108,19 @@ returns-2 c rest reads outputs =
 
 -- what the header of a constraint tells
 few : (c : tie.Else1 Inv-loop μ-loop) → c .before .before .before .before .before .loop .m < mostConstraints
-few c = constraint-length _ _ _ _ (c .if1 .left) (here (c .before)) .2
+few c = constraint-length _ _ _ _ (c .if1 .left) (here (c .before)) .1
+
+is-wide-requires : tie.Need-is-wide-requires Inv-loop μ-loop
+is-wide-requires c κs = search needs
 
 add-literals-of : tie.Need-add-literals-of Inv-loop μ-loop
-add-literals-of c = omega (arith, whole (c .before), c .before .before .before .before .before .before .before .before .good)
+add-literals-of c = omega (arith, whole (c .before .before), c .before .before .before .before .before .before .before .before .before .good)
 
 add-literals-of-2 : tie.Need-add-literals-of-2 Inv-loop μ-loop
-add-literals-of-2 c = omega (arith, whole (c .before), c .before .before .before .before .before .before .before .before .good)
+add-literals-of-2 c = omega (arith, whole (c .before .before), c .before .before .before .before .before .before .before .before .before .good)
 
 add-literals-of-3 : tie.Need-add-literals-of-3 Inv-loop μ-loop
-add-literals-of-3 c = omega (arith, whole (c .before), c .before .before .before .before .before .before .before .before .good)
+add-literals-of-3 c = omega (arith, whole (c .before .before), c .before .before .before .before .before .before .before .before .before .good)
 
 sub-literals-of : tie.Need-sub-literals-of Inv-loop μ-loop
 sub-literals-of c = search needs
@@ -126,7 +129,7 @@ part-literals-of-start : tie.Need-part-literals-of-start Inv-loop μ-loop
 part-literals-of-start c = search needs
 
 part-literals-of-end : tie.Need-part-literals-of-end Inv-loop μ-loop
-part-literals-of-end c = whole (c .before)
+part-literals-of-end c = whole (c .before .before)
 
 literals-of-requires : tie.Need-literals-of-requires Inv-loop μ-loop
 literals-of-requires c κs = search needs
@@ -141,40 +144,42 @@ returns-3 : tie.Need-returns-3 Inv-loop μ-loop
 returns-3 c rest reads outputs =
     let t = c .before .before in
     let f = t .before .before in
-    let e = f .before .before in
+    let w = f .before .before in
+    let e = w .before in
     let k = e .before in
     let h = k .before .before .before in
     let l = h .before .loop in
     let a = h .before .before .before .before .args in
     ap (λ x. reached (x .progress) (wholeSet (a .r) (a .n) (x .m) rest reads outputs (x .constraints))) (c .ended3 .ensures)
-    ∙ sym (constraints-by (now (a .s)) _ (h .front-at .result .at) (wholeSet (a .r) (a .n) (l .m) rest reads outputs (l .constraints)) (l .inv .0) (so-far h rest reads outputs) _ _ (here k) (e .if1 .left)
+    ∙ sym (constraints-by (now (a .s)) _ (h .front-at .result .at) (wholeSet (a .r) (a .n) (l .m) rest reads outputs (l .constraints)) (l .inv .0) (so-far h rest reads outputs) _ _ (here k) (e .if1 .left) (w .is-wide .result) (w .is-wide .ensures)
     (f .literals-of .result) (h .before .before .before .before .pre) (f .literals-of .ensures) _ (t .taken .given .1))
 
 enum-told : tie.Need-enum-told Inv-loop μ-loop
 enum-told c = search needs
 
 mul-constraints : tie.Need-mul-constraints Inv-loop μ-loop
-mul-constraints c = omega (arith, few (c .before .before .before .before .before))
+mul-constraints c = omega (arith, few (c .before .before .before .before .before .before))
 
 array-set-from-constraints : tie.Need-array-set-from-constraints Inv-loop μ-loop
-array-set-from-constraints c = few (c .before .before .before .before .before)
+array-set-from-constraints c = few (c .before .before .before .before .before .before)
 
 add-m : tie.Need-add-m Inv-loop μ-loop
-add-m c = omega (arith, few (c .before .before .before .before .before))
+add-m c = omega (arith, few (c .before .before .before .before .before .before))
 
 add-next : tie.Need-add-next Inv-loop μ-loop
-add-next c = omega (arith, whole (c .before .before .before .before .before .before), c .before .before .before .before .before .before .before .before .before .before .before .before .before .good)
+add-next c = omega (arith, whole (c .before .before .before .before .before .before .before), c .before .before .before .before .before .before .before .before .before .before .before .before .before .before .good)
 
 add-next-2 : tie.Need-add-next-2 Inv-loop μ-loop
-add-next-2 c = omega (arith, whole (c .before .before .before .before .before .before), c .before .before .before .before .before .before .before .before .before .before .before .before .before .good)
+add-next-2 c = omega (arith, whole (c .before .before .before .before .before .before .before), c .before .before .before .before .before .before .before .before .before .before .before .before .before .before .good)
 
 loop-less : tie.Need-loop-less Inv-loop μ-loop
-loop-less c = omega (arith, few (c .before .before .before .before .before))
+loop-less c = omega (arith, few (c .before .before .before .before .before .before))
 
 loop-again : tie.Need-loop-again Inv-loop μ-loop
 loop-again c =
     let f = c .before .before .before in
-    let e = f .before .before in
+    let w = f .before .before in
+    let e = w .before in
     let k = e .before in
     let h = k .before .before .before in
     let l = h .before .loop in
@@ -183,7 +188,7 @@ loop-again c =
       λ rest reads outputs.
           let s = wholeSet (a .r) (a .n) (l .m) rest reads outputs (l .constraints) in
           let left : mostConstraints - l .m ≡ suc mostConstraints - (l .m + 1) = omega arith in
-          constraints-by (now (a .s)) _ (h .front-at .result .at) s (l .inv .0) (so-far h rest reads outputs) _ _ (here k) (e .if1 .left)
+          constraints-by (now (a .s)) _ (h .front-at .result .at) s (l .inv .0) (so-far h rest reads outputs) _ _ (here k) (e .if1 .left) (w .is-wide .result) (w .is-wide .ensures)
           (f .literals-of .result) (h .before .before .before .before .pre) (f .literals-of .ensures) _ (c .before .enum-told .given .1)
           ∙ ap (λ (x : ℕ). constraintsFrom (now (a .s)) x (h .front-at .result .at + 3 + k .before .header2 .given .0 .1 .0) (withConstraint s (f .literals-of .result .made))) left,
     )
@@ -204,6 +209,7 @@ constraints-at-spec =
     end-at-requires
     ended-requires-2
     returns-2
+    is-wide-requires
     add-literals-of
     add-literals-of-2
     add-literals-of-3

@@ -42,7 +42,7 @@ are-reads-ok-requires : tie.Need-are-reads-ok-requires
 are-reads-ok-requires c κs = search needs
 
 are-outputs-ok-requires : tie.Need-are-outputs-ok-requires
-are-outputs-ok-requires c κs = few-reads (c .before .before .before .before .before .before .before .before)
+are-outputs-ok-requires c κs = few-reads (c .before .before .before .before .before .before .before .before .before)
 
 are-constraints-ok-requires : tie.Need-are-constraints-ok-requires
 are-constraints-ok-requires c κs = search needs
@@ -64,12 +64,12 @@ returns c =
     let b = c .before in
     let d = b .before in
     let f = d .before in
-    let k = f .before in
-    let o = k .before in
+    let o = f .before in
     let p = o .before .before .before in
     let w = p .before .before in
     let n = w .before in
-    let t = n .before .before .before in
+    let k = n .before .before .before in
+    let t = k .before in
     let z = t .before .before in
     let s = z .args .set in
     set-tests s (p .are-reads-ok .result) (o .are-outputs-ok .result) (k .are-constraints-ok .result) (f .fits16 .result)
@@ -87,11 +87,11 @@ well-formed-spec =
     tie.close
     (tie.spec
     are-counts-ok-requires
+    are-constraints-ok-requires
     names-of-reads-requires
     names-of-outputs-requires
     are-reads-ok-requires
     are-outputs-ok-requires
-    are-constraints-ok-requires
     fits16-requires
     both-requires
     both-requires-2

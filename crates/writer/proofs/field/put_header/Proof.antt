@@ -1,63 +1,41 @@
--- `writer::field::put_header` meets its contract: three stores. Assumes nothing.
-use mathlib.Core.Path.{_≡_, refl, _∙_}
+-- `writer::field::put_header` meets its contract: three bytes. Assumes nothing.
+use mathlib.Core.Path.{_≡_, subst}
 use mathlib.Core.List.{[], _∷_}
 use Prim.Native.Nat.{ℕ, _/_, _%_}
 use native.Mathlib.Omega.{arith}
-use lib.ListN.{length-set}
 use denote.Ref.{now}
-use Rattle.writer.specs.way.Write.{putAt}
-use Rattle.writer.proofs.WriteLaws.{put-three}
+use Rattle.writer.specs.way.Write.{Put}
 use borrow.Author.Needs.{needs}
 use Rattle.writer.proofs.field.put_header.Statement.{statement}
 use Rattle.writer.proofs.field.put_header.Tie as tie
 
-slice-write-buf : tie.Need-slice-write-buf
-slice-write-buf c = search needs
+cast-put-three : tie.Need-cast-put-three
+cast-put-three c = search needs
 
-cast-buf : tie.Need-cast-buf
-cast-buf c = search needs
+cast-put-three-2 : tie.Need-cast-put-three-2
+cast-put-three-2 c = search needs
 
-add-buf : tie.Need-add-buf
-add-buf c = search needs
-
-slice-write-buf-2 : tie.Need-slice-write-buf-2
-slice-write-buf-2 c = simp length-set (omega (arith, c .pre))
-
-cast-buf-2 : tie.Need-cast-buf-2
-cast-buf-2 c = search needs
-
-add-buf-2 : tie.Need-add-buf-2
-add-buf-2 c = search needs
-
-slice-write-buf-3 : tie.Need-slice-write-buf-3
-slice-write-buf-3 c = simp length-set (omega (arith, c .pre))
-
-add-result : tie.Need-add-result
-add-result c = search needs
+put-three-requires : tie.Need-put-three-requires
+put-three-requires c κs = search needs
 
 same-length : tie.Need-same-length
 same-length c = search needs
 
 returns : tie.Need-returns
 returns c =
-    let a = c .args in
+    let p = c .before .before in
+    let s = p .before .before .before in
+    let a = s .args in
     let n : ℕ = a .len in
-    let high : n / 256 % 256 ≡ n / 256 = omega (arith, c .pre) in (
-      put-three (now (a .buf)) (a .at) (a .tag) (n / 256 % 256) (n % 256) (c .pre .0) ∙ (λ i. putAt (now (a .buf)) (a .at) (a .tag ∷ high i ∷ n % 256 ∷ [])),
-      refl,
-    )
+    let high : n / 256 % 256 ≡ n / 256 = omega (arith, s .pre) in
+    subst (λ (x : ℕ). Put (now (a .buf)) (a .at) (a .tag ∷ x ∷ n % 256 ∷ []) (p .put-three .last .0) (p .put-three .result)) high (p .put-three .ensures)
 
 pub put-header-spec : {M : Type 1} → statement M
 put-header-spec =
     tie.close
     (tie.spec
-    slice-write-buf
-    cast-buf
-    add-buf
-    slice-write-buf-2
-    cast-buf-2
-    add-buf-2
-    slice-write-buf-3
-    add-result
+    cast-put-three
+    cast-put-three-2
+    put-three-requires
     same-length
     returns)

@@ -2,7 +2,7 @@
 -- bits from k on. Assumes nothing.
 use mathlib.Core.Path.{_≡_, sym, subst}
 use mathlib.Core.Bool.{true}
-use mathlib.Core.List.{List, [], _∷_}
+use mathlib.Core.List.{List}
 use Prim.Native.Nat.{ℕ, _+_, _-_, _^_, _≤_, _<_}
 use native.Mathlib.Omega.{arith}
 use lib.Bits.{and-le-r}
@@ -13,6 +13,7 @@ use Rattle.words.proofs.LoopTurns.{Grows, joined-grow}
 use Rattle.words.specs.Loop.{joined}
 use Rattle.words.specs.Word.{odd, bit}
 use Rattle.words.proofs.BitLaws.{bit-below}
+use Rattle.writer.specs.Write.{literalBytes}
 use Rattle.writer.specs.way.Write.{literalAt, Put}
 use Rattle.writer.proofs.LowestBit.{Lowest, lowest, Rest, rest-all, rest-from, rest-here, rest-gap, rest-next, rest-none}
 use Rattle.writer.proofs.LiteralBodyLaws.{literal-here, literals-skip}
@@ -21,18 +22,18 @@ use Rattle.writer.proofs.field.put_literals.Statement.{statement}
 use Rattle.writer.proofs.field.put_literals.Tie as tie
 
 abbrev Inv-loop : tie.InvT-loop
-Inv-loop buf₀ at base plain named ranks next₀ left₀ buf next left =
-    (k : ℕ) × Puts (λ j. joined j (literalAt base plain named ranks)) (length ranks) buf₀ at buf next k × Rest named left k × (left < 2 ^ 32)
+Inv-loop buf₀ at wide flags plain named ranks next₀ left₀ buf next left =
+    (k : ℕ) × Puts (λ j. joined j (literalAt wide flags plain named ranks)) (length ranks) buf₀ at buf next k × Rest named left k × (left < 2 ^ 32)
 
 abbrev μ-loop : tie.MeasureT-loop
-μ-loop buf₀ at base plain named ranks next₀ left₀ buf next left = left
+μ-loop buf₀ at wide flags plain named ranks next₀ left₀ buf next left = left
 
 abbrev start : tie.At-loop Inv-loop μ-loop → tie.Start Inv-loop μ-loop
 start c = c .before .before .before
 
 grow : (s : tie.Start Inv-loop μ-loop)
-    → let a = s .args in Grows (λ j. joined j (literalAt (a .base) (a .plain) (a .named) (now (a .ranks)))) (literalAt (a .base) (a .plain) (a .named) (now (a .ranks))) (length (now (a .ranks)))
-grow s = let a = s .args in joined-grow (literalAt (a .base) (a .plain) (a .named) (now (a .ranks))) (length (now (a .ranks)))
+    → let a = s .args in Grows (λ j. joined j (literalAt (a .wide) (a .flags) (a .plain) (a .named) (now (a .ranks)))) (literalAt (a .wide) (a .flags) (a .plain) (a .named) (now (a .ranks))) (length (now (a .ranks)))
+grow s = let a = s .args in joined-grow (literalAt (a .wide) (a .flags) (a .plain) (a .named) (now (a .ranks))) (length (now (a .ranks)))
 
 -- the lowest point that is left
 abbrev next-point : tie.In-loop Inv-loop μ-loop → ℕ
@@ -49,7 +50,7 @@ few c = let s = start (c .before) in bit-below (length (now (s .args .ranks))) (
 
 -- the literals before it are in place
 reached : (c : tie.In-loop Inv-loop μ-loop) → let a = start (c .before) .args in let l = c .before .loop in
-    Puts (λ j. joined j (literalAt (a .base) (a .plain) (a .named) (now (a .ranks)))) (length (now (a .ranks))) (now (a .buf)) (a .at) (l .buf) (l .next) (next-point c)
+    Puts (λ j. joined j (literalAt (a .wide) (a .flags) (a .plain) (a .named) (now (a .ranks)))) (length (now (a .ranks))) (now (a .buf)) (a .at) (l .buf) (l .next) (next-point c)
 reached c =
     let a = start (c .before) .args in
     let l = c .before .loop in
@@ -58,7 +59,7 @@ reached c =
     let r = l .inv .2 in (
       omega (arith, few c),
       subst (λ (x : List ℕ). Put (now (a .buf)) (a .at) x (l .buf) (l .next))
-          (literals-skip (a .base) (a .plain) (a .named) (now (a .ranks)) k t (rest-from (a .named) (l .left) k t r (found c)) (rest-gap (a .named) (l .left) k t r (found c))) (l .inv .1 .1),
+          (literals-skip (a .wide) (a .flags) (a .plain) (a .named) (now (a .ranks)) k t (rest-from (a .named) (l .left) k t r (found c)) (rest-gap (a .named) (l .left) k t r (found c))) (l .inv .1 .1),
     )
 
 loop-holds : tie.Need-loop-holds Inv-loop μ-loop
@@ -76,36 +77,35 @@ cast-signed c = omega (arith, few c, start (c .before) .pre .1)
 shr-signed : tie.Need-shr-signed Inv-loop μ-loop
 shr-signed c = omega (arith, few c, start (c .before) .pre .1)
 
-cast-signed-2 : tie.Need-cast-signed-2 Inv-loop μ-loop
-cast-signed-2 c = omega (arith, few c, start (c .before) .pre .1)
-
-add-signed : tie.Need-add-signed Inv-loop μ-loop
-add-signed c = omega (arith, few c, start (c .before) .pre .1, start (c .before) .pre .0)
-
 signed-requires : tie.Need-signed-requires Inv-loop μ-loop
-signed-requires c κs = omega (arith, few c, start (c .before) .pre .1, start (c .before) .pre .0)
+signed-requires c κs = start (c .before) .pre .0
 
 -- its literal
 literal : (c : tie.After-signed Inv-loop μ-loop) → let t = c .before in let a = start (t .before) .args in
-    literalAt (a .base) (a .plain) (a .named) (now (a .ranks)) (next-point t) ≡ c .signed .result ∷ getD (now (a .ranks)) (next-point t) 0 ∷ []
+    literalAt (a .wide) (a .flags) (a .plain) (a .named) (now (a .ranks)) (next-point t) ≡ literalBytes (a .wide) (c .signed .result) (next-point t) (getD (now (a .ranks)) (next-point t) 0)
 unfolding bit odd
 literal c =
     let t = c .before in
     let a = start (t .before) .args in
-    literal-here (a .base) (a .plain) (a .named) (now (a .ranks)) (next-point t) (c .signed .result) (named-here t) (c .signed .ensures)
+    literal-here (a .wide) (a .flags) (a .plain) (a .named) (now (a .ranks)) (next-point t) (c .signed .result) (named-here t) (c .signed .ensures .0)
 
-shared-slice-read-put-two : tie.Need-shared-slice-read-put-two Inv-loop μ-loop
-shared-slice-read-put-two c = few (c .before .before .before)
+cast-put-literal : tie.Need-cast-put-literal Inv-loop μ-loop
+cast-put-literal c = omega (arith, few (c .before .before), start (c .before .before .before) .pre .1)
 
-put-two-requires : tie.Need-put-two-requires Inv-loop μ-loop
-put-two-requires c κs =
+shared-slice-read-put-literal : tie.Need-shared-slice-read-put-literal Inv-loop μ-loop
+shared-slice-read-put-literal c = few (c .before .before .before)
+
+put-literal-requires : tie.Need-put-literal-requires Inv-loop μ-loop
+put-literal-requires c κs =
     let g = c .before .before in
     let t = g .before in
     let l = t .before .loop in
     let s = start (t .before) in
-    let a = s .args in
-    subst (λ (x : List ℕ). l .next + length x ≤ length (l .buf)) (literal g)
-    (puts-room (grow s) (now (a .buf)) (a .at) (s .pre .3) (l .buf) (l .next) (next-point t) (reached t) (few t))
+    let a = s .args in (
+      omega (arith, few t, s .pre .1, g .signed .ensures .1),
+      subst (λ (x : List ℕ). l .next + length x ≤ length (l .buf)) (literal g)
+          (puts-room (grow s) (now (a .buf)) (a .at) (s .pre .3) (l .buf) (l .next) (next-point t) (reached t) (few t)),
+    )
 
 sub-left : tie.Need-sub-left Inv-loop μ-loop
 sub-left c = omega (arith, c .before .before .before .before .before .before .loop-test .taken)
@@ -126,7 +126,7 @@ loop-again c =
     let a = s .args in (
       next-point t + 1,
       puts-one (grow s) (now (a .buf)) (a .at) (s .pre .3) (l .buf) (l .next) (next-point t) _ _ (reached t) (few t)
-          (subst (λ (x : List ℕ). Put (l .buf) (l .next) x (p .put-two .last .0) (p .put-two .result)) (sym (literal g)) (p .put-two .ensures)),
+          (subst (λ (x : List ℕ). Put (l .buf) (l .next) x (p .put-literal .last .0) (p .put-literal .result)) (sym (literal g)) (p .put-literal .ensures)),
       rest-next (a .named) (l .left) (l .inv .0) (next-point t) (l .inv .2) (found t),
       omega (arith, l .inv .3, and-le-r (l .left) (l .left - 1)),
     )
@@ -145,7 +145,7 @@ returns c =
     let l = c .before .loop in
     let k = l .inv .0 in
     subst (λ (x : List ℕ). Put (now (a .buf)) (a .at) x (l .buf) (l .next))
-    (literals-skip (a .base) (a .plain) (a .named) (now (a .ranks)) k (length (now (a .ranks))) (l .inv .1 .0)
+    (literals-skip (a .wide) (a .flags) (a .plain) (a .named) (now (a .ranks)) k (length (now (a .ranks))) (l .inv .1 .0)
     (λ j h below. rest-none (a .named) (l .left) k (l .inv .2) (c .loop-test .left) j h)) (l .inv .1 .1)
 
 pub put-literals-spec : {M : Type 1} → statement M
@@ -158,11 +158,10 @@ put-literals-spec =
     cast-k
     cast-signed
     shr-signed
-    cast-signed-2
-    add-signed
     signed-requires
-    shared-slice-read-put-two
-    put-two-requires
+    cast-put-literal
+    shared-slice-read-put-literal
+    put-literal-requires
     sub-left
     loop-less
     loop-again

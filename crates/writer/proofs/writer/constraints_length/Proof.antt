@@ -13,7 +13,7 @@ use Rattle.writer.proofs.writer.constraints_length.Statement.{statement
 use Rattle.writer.proofs.writer.constraints_length.Tie as tie
 
 abbrev Inv-loop : tie.InvT-loop
-Inv-loop m constraints len₀ i₀ len i = Counted (constraintFields constraints) m len i × (len ≤ (3 + 2 * (mostReads + mostOutputs)) * i)
+Inv-loop m constraints len₀ i₀ len i = Counted (constraintFields constraints) m len i × (len ≤ (3 + 3 * (mostReads + mostOutputs)) * i)
 
 abbrev μ-loop : tie.MeasureT-loop
 μ-loop m constraints len₀ i₀ len i = m - i
@@ -35,12 +35,12 @@ array-copy-out-c c = omega (arith, c .before .before .pre .0)
 add-len : tie.Need-add-len Inv-loop μ-loop
 add-len c = omega (arith, c .before .before .before .pre .0)
 
-literals-length-requires : tie.Need-literals-length-requires Inv-loop μ-loop
-literals-length-requires c κs =
+body-length-requires : tie.Need-body-length-requires Inv-loop μ-loop
+body-length-requires c κs =
     c .before .before .before .pre .1 (c .before .before .loop .i) (c .before .loop-test .taken)
 
 add-len-2 : tie.Need-add-len-2 Inv-loop μ-loop
-add-len-2 c = omega (arith, c .before .before .before .before .pre .0, c .literals-length .ensures .1)
+add-len-2 c = omega (arith, c .before .before .before .before .pre .0, c .body-length .ensures .1)
 
 add-i : tie.Need-add-i Inv-loop μ-loop
 add-i c = omega (arith, c .before .before .before .before .pre .0)
@@ -52,7 +52,7 @@ loop-again : tie.Need-loop-again Inv-loop μ-loop
 loop-again c =
     let s = c .before .before .before .before in
     let l = c .before .before .before .loop in
-    let b = c .literals-length in (
+    let b = c .body-length in (
       counted-one (constraints-grow (s .args .t1) (s .args .m) (few s)) (l .len) (l .i) (l .len + 3 + b .result) (l .inv .0) (c .before .before .loop-test .taken)
           (omega (arith, b .ensures .0)),
       omega (arith, l .inv .1, b .ensures .1),
@@ -74,7 +74,7 @@ constraints-length-spec =
     mul-c
     array-copy-out-c
     add-len
-    literals-length-requires
+    body-length-requires
     add-len-2
     add-i
     loop-less
