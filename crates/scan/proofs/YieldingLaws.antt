@@ -1,17 +1,20 @@
 -- Which outputs of a constraint yield: of `own`, those of the lowest rank.
 -- Assumes nothing.
 use mathlib.Core.Path.{_≡_, refl, sym, ap, _∙_}
-use mathlib.Core.Bool.{Bool, true, false, _&&_}
+use mathlib.Core.Bool.{Bool, true, false, cond, _&&_}
 use mathlib.Core.Logic.{_⊎_, inl, inr}
 use Prim.Native.Nat.{ℕ, zero, suc, _^_, _≤_, _<_, min}
 use native.Mathlib.Nat.{min-le-left, min-le-right, min-eq-left, min-eq-right, le-trans, not-suc-le-zero, le-refl}
 use native.Mathlib.Decide.{decLe, decLt}
+use native.Mathlib.Numerals.{add-one}
 use native.Mathlib.Omega.{arith}
+use lib.Bits.{bitOr, or-zero-r}
 use lib.Dec.{eqb}
 use Rattle.words.specs.Word.{bit}
+use Rattle.words.specs.Loop.{gather, bitIf, word}
 use Rattle.words.proofs.BitLaws.{bit-above}
 use Rattle.words.proofs.BoolLaws.{by-test, clash}
-use Rattle.words.proofs.LoopLaws.{below-suc, bit-word, word-lt}
+use Rattle.words.proofs.LoopLaws.{below-suc, bit-word, word-lt, still}
 use Rattle.scan.specs.declared.set.Constraint.{Constraint}
 use Rattle.scan.specs.Set.{rank}
 use Rattle.scan.specs.Pass.{lowest, hasRank, yielding}
@@ -86,3 +89,24 @@ module _ (c : Constraint) (own : ℕ) where
       go : Dec (k < n) → bit k (yielding n c own) ≡ false
       go (yes h) = yielding-bit n k h ∙ ap (λ (b : Bool). b && eqb (rank c k) (lowest c own n)) e
       go (no nh) = bit-above n k (yielding n c own) (yielding-lt n) (omega arith)
+
+-- Outputs of `own` that are all below n are the same outputs below any more.
+module _ (c : Constraint) (own n k : ℕ) (few : n ≤ k) (small : own < 2 ^ n) where
+  lowest-wider : lowest c own k ≡ lowest c own n
+  lowest-wider = still (lowest c own) n k few (λ j a b. ap (lowest c own) (add-one j) ∙ lowest-clear c own j (bit-above n j own small a))
+
+  -- no output from n on has a rank
+  none-beyond : (r j : ℕ) → n ≤ j → hasRank c own r j ≡ false
+  unfolding hasRank
+  none-beyond r j h = ap (λ (b : Bool). b && eqb (rank c j) r) (bit-above n j own small h)
+
+  word-wider : (r : ℕ) → word k (hasRank c own r) ≡ word n (hasRank c own r)
+  unfolding word gather bitIf
+  word-wider r =
+      let p = hasRank c own r in
+      still (λ (j : ℕ). word j p) n k few
+      (λ j a b. ap (λ (x : ℕ). word x p) (add-one j) ∙ ap (λ (t : Bool). bitOr (word j p) (cond t (2 ^ j) 0)) (none-beyond r j a) ∙ or-zero-r (word j p))
+
+  pub yielding-wider : yielding k c own ≡ yielding n c own
+  unfolding yielding
+  yielding-wider = ap (λ (r : ℕ). word k (hasRank c own r)) lowest-wider ∙ word-wider (lowest c own n)

@@ -3,6 +3,7 @@ use super::pick::keep16;
 use super::pick::least16;
 use super::pick::pick16;
 use super::set::Constraint;
+use super::set::MOST_OUTPUTS;
 use choice::both;
 ghost use mathlib.Core.Path.{_≡_};
 ghost use mathlib.Core.Bool.{cond};
@@ -51,4 +52,18 @@ pub fn yielding_of(n: usize, c: Constraint, own: u16) -> u16
         k = k + 1;
     }
     out
+}
+
+// The same of outputs that are among n: with loops of a fixed length, for which the compiler needs no loop.
+pub fn yielding_within(n: usize, c: Constraint, own: u16) -> u16
+    requires { ⌜ (n ≤ mostOutputs) × (own < 2 ^ n) ⌝ }
+    ensures { λ r. ⌜ r ≡ yielding n c own ⌝ }
+{
+    if n <= 4 {
+        return yielding_of(4, c, own);
+    }
+    if n <= 8 {
+        return yielding_of(8, c, own);
+    }
+    yielding_of(MOST_OUTPUTS, c, own)
 }

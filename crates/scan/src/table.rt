@@ -4,7 +4,7 @@ use super::holds::Holds;
 use super::holds::hold_by;
 use super::holds::pass_limit;
 use super::holds::unheld_of;
-use super::pass::yielding_of;
+use super::pass::yielding_within;
 use super::set::MOST_CONSTRAINTS;
 use super::set::MOST_OUTPUTS;
 use super::set::Set;
@@ -65,7 +65,7 @@ fn fill(s: Set, h: Holds, entered: u64) -> Table
             let outs = c.out_plain | c.out_negated;
             plain[count] = c.out_plain;
             named[count] = outs;
-            flip[count] = yielding_of(n, c, outs & unheld);
+            flip[count] = yielding_within(n, c, outs & unheld);
             count = count + 1;
         }
     }

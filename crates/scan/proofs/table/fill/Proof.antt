@@ -2,19 +2,24 @@
 use mathlib.Core.Path.{_≡_, sym, ap, ap₂, _∙_}
 use mathlib.Core.Bool.{true}
 use mathlib.Core.List.{List}
-use Prim.Native.Nat.{ℕ, _+_, _≤_, _-_}
+use Prim.Native.Nat.{ℕ, _+_, _≤_, _<_, _-_, _^_}
+use native.Mathlib.Nat.{lt-of-le-of-lt}
 use native.Mathlib.Omega.{arith}
 use lib.ListN.{set}
-use lib.Bits.{bitAnd}
-use Rattle.words.specs.Word.{bit}
+use lib.Bits.{bitAnd, bitOr, and-le-r}
+use lib.Pow.{pow-pos, ones-lt}
+use Rattle.words.specs.Word.{bit, low}
 use Rattle.scan.specs.declared.set.Set.{Set}
 use Rattle.scan.specs.declared.holds.Holds.{Holds}
+use Rattle.scan.specs.declared.holds.Holds.the-variants.{Forced, Clash}
+use Rattle.scan.specs.Holds.{unheldBy}
 use Rattle.scan.specs.declared.table.Table.{Table}
 use Rattle.scan.specs.Set.{constraint, outs}
 use Rattle.scan.specs.Pass.{yielding}
 use Rattle.scan.specs.way.Holds.{unheldFrom, limitBy}
 use Rattle.scan.specs.way.Columns.{counted}
 use Rattle.scan.specs.way.Table.{outputsIn, unheldIn, yieldsIn, withEntry, withCount, tableUpto, filledUp, tableBy}
+use Rattle.scan.proofs.HoldsLaws.{without-lt}
 use Rattle.scan.proofs.TableLaws.{upto-none, upto-on, upto-off}
 use borrow.Author.Needs.{needs}
 use Rattle.scan.proofs.table.fill.Statement.{statement}
@@ -96,8 +101,23 @@ mul-named c = search needs
 array-write-named : tie.Need-array-write-named Inv-loop μ-loop
 array-write-named c = search needs
 
-yielding-of-requires : tie.Need-yielding-of-requires Inv-loop μ-loop
-yielding-of-requires c κs = search needs
+-- outputs that are not held are among the first n
+unheld-small : (n : ℕ) (h : Holds) → unheldFrom n h < 2 ^ n
+unfolding unheldBy
+unheld-small n (Forced f0 f1) = without-lt n (low n) (bitOr f0 f1) (ones-lt n)
+unheld-small n (Clash k) = pow-pos n
+
+yielding-within-requires : tie.Need-yielding-within-requires Inv-loop μ-loop
+unfolding constraint
+yielding-within-requires c κs =
+    let t = c .before in
+    let u = t .before .before .before .before .before in
+    let a = u .before .before .before .args in
+    let k = u .before .least2 .result in
+    let own = outs (constraint (a .t1) (t .before .before .before .before .loop .i)) in (
+      omega (arith, u .before .least2 .ensures),
+      lt-of-le-of-lt (and-le-r own (u .unheld-of .result)) (rw (u .unheld-of .ensures) (unheld-small k (a .h))),
+    )
 
 mul-flip : tie.Need-mul-flip Inv-loop μ-loop
 mul-flip c = search needs
@@ -122,8 +142,8 @@ loop-again c =
       omega arith,
       omega arith,
       on (a .t1) (a .h) (a .entered) (l .i) (l .count) (l .plain) (l .named) (l .flip) (l .inv .2) (sym (b .bit64 .ensures) ∙ t .if1 .taken)
-          (u .before .least2 .result) (u .unheld-of .result) (c .yielding-of .result) (u .before .least2 .ensures) (u .unheld-of .ensures)
-          (c .yielding-of .ensures),
+          (u .before .least2 .result) (u .unheld-of .result) (c .yielding-within .result) (u .before .least2 .ensures) (u .unheld-of .ensures)
+          (c .yielding-within .ensures),
     )
 
 loop-less-2 : tie.Need-loop-less-2 Inv-loop μ-loop
@@ -170,7 +190,7 @@ fill-spec =
     array-write-plain
     mul-named
     array-write-named
-    yielding-of-requires
+    yielding-within-requires
     mul-flip
     array-write-flip
     add-count
