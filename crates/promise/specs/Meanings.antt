@@ -79,7 +79,7 @@ pub record PlacesMean (s : Set) : Type 0 where
   -- each point keeps its name in eight byte places, unused ones zero
   pub read-name : (k : ℕ) → k < s .r → readPoint (s .reads) k .name ≡ readName s k ++ replicate (8 - length (readName s k)) 0
   pub output-name : (j : ℕ) → j < s .n → outputPoint (s .outputs) j .name ≡ outputName s j ++ replicate (8 - length (outputName s j)) 0
-  -- there are sixteen places for read points, twelve for outputs, sixty-four for constraints and twelve for a constraint's ranks
+  -- there are twenty places for read points, twelve for outputs, sixty-four for constraints and twelve for a constraint's ranks
   pub places : (length (s .reads) ≡ 20) × (length (s .outputs) ≡ 12) × (length (s .constraints) ≡ 64)
   pub rank-places : (i : ℕ) → i < s .m → length (constraint s i .ranks) ≡ 12
   -- places beyond the counts are zero, and the rank of an output that a constraint does not name

@@ -15,7 +15,7 @@ use Rattle.scan.specs.Names.{nameOk, nameZero}
 use Rattle.shape.specs.way.Names.{firstName}
 use Rattle.scan.specs.Shape.{isSensor, readZero}
 
--- the word of the sensors among sixteen read points
+-- the word of the sensors at the places for read points
 abbrev pub sensorsOf : List ReadPoint → ℕ
 sensorsOf reads = word mostReads (λ k. isSensor (readPoint reads k .kind))
 
