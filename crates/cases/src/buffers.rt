@@ -24,7 +24,7 @@ pub const MOST_SCRATCH: usize = 512;
 const SIZE_BYTES: usize = 2;
 
 // The operations that are lent a buffer.
-#[derive(Drop)]
+#[derive(Clone, Copy)]
 enum Operation {
     Write,
     Judge,
@@ -34,7 +34,7 @@ enum Operation {
 }
 
 // What a call leaves: how many of the first bytes may have any content, and the outputs and the mark of the state that it returns.
-#[derive(Drop)]
+#[derive(Clone, Copy)]
 struct Left {
     free: usize,
     outputs: usize,

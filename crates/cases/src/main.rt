@@ -1,5 +1,7 @@
 // The test program: cases made by hand, and then for each case of a corpus on standard input what the operations answer, in lines. A case is a
 // byte for its kind and the records of that kind.
+#![tactic(auto)]
+
 mod records; // reading the corpus
 mod printing; // numbers, items and sums
 mod answers; // what operations answer

@@ -1,4 +1,6 @@
 // Choices and tests as values, so that loops have no branches.
+#![tactic(auto)]
+
 ghost use Rattle.std.specs.Prelude.{◌≡◌, cond, ◌&&◌, ◌||◌, min};
 
 // Whether both tests passed.

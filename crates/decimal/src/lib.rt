@@ -1,4 +1,6 @@
 // Numbers as decimal digits in ASCII.
+#![tactic(auto)]
+
 ghost use Rattle.std.specs.Prelude.{◌≡◌, ◌≤◌, take, drop, replicate};
 ghost use Rattle.decimal.specs.Decimal.{decimal};
 
@@ -6,7 +8,7 @@ ghost use Rattle.decimal.specs.Decimal.{decimal};
 pub const MOST_DIGITS: usize = 20;
 
 // The digits of a number stand at the end, from place `at` on; before them stand zeros.
-#[derive(Drop)]
+#[derive(Clone, Copy)]
 pub struct Digits {
     pub bytes: [u8; MOST_DIGITS],
     pub at: usize,

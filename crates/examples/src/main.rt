@@ -1,5 +1,7 @@
 // The test of the examples. The arguments are pairs of files: a set file, and its text. For each pair it prints the line that the verdict program has
 // for the set file, and whether the text is what is shown of it.
+#![tactic(auto)]
+
 ghost use Rattle.io.specs.Counts.{IsPrefixLen};
 
 use libc::STDOUT_FILENO;

@@ -8,7 +8,7 @@ use shape::{Found, find, number_of};
 
 // Whether the point is an output, 1, or a read point, 0; and its number.
 #[repr(C)]
-#[derive(Drop)]
+#[derive(Clone, Copy)]
 pub struct FindResult {
     pub number: u8,
     pub output: u8,

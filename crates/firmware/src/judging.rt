@@ -10,7 +10,7 @@ use verdict::{Verdict, judge, number_of};
 
 // The verdict: with 22, 23 and 58 the read word, with 23 the request, with 58 the output that is forced both ways.
 #[repr(C)]
-#[derive(Drop)]
+#[derive(Clone, Copy)]
 pub struct VerdictResult {
     pub number: u8,
     pub output: u8,

@@ -8,7 +8,7 @@ use scan::Set;
 
 // The counts of the file's set; or the refusal of the file, with the offset of the field's first byte.
 #[repr(C)]
-#[derive(Drop)]
+#[derive(Clone, Copy)]
 pub struct LoadResult {
     pub number: u8,
     pub r: u8,

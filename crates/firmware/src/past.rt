@@ -6,7 +6,7 @@ use scan::{Set, State};
 
 // The vector sent and the sensor word of the last scan that was accepted, and whether one was since the start: 0 says no.
 #[repr(C)]
-#[derive(Drop)]
+#[derive(Clone, Copy)]
 pub struct Past {
     pub output: u16,
     pub accepted: u8,

@@ -9,7 +9,7 @@ use machine::{ScanAnswer, Scanned, number_of, scan};
 
 // The vector sent and the passes made, or the refusal; and the past for the next scan.
 #[repr(C)]
-#[derive(Drop)]
+#[derive(Clone, Copy)]
 pub struct ScanResult {
     pub number: u8,
     pub vector: u16,

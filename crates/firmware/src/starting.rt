@@ -11,7 +11,7 @@ use start::{Started, start};
 
 // The verdict, and the past for the first scan.
 #[repr(C)]
-#[derive(Drop)]
+#[derive(Clone, Copy)]
 pub struct StartResult {
     pub verdict: VerdictResult,
     pub past: Past,

@@ -20,14 +20,14 @@ const LONGEST: [u8; TAG_BOUND] = [0, 2, 10, 8, 48, 0, 2, 72];
 const STEP: [u8; TAG_BOUND] = [1, 1, 1, 1, 2, 1, 1, 3];
 
 // A field whatever its tag: header or body runs past the end; or the tag and the length of the body.
-#[derive(Drop)]
+#[derive(Clone, Copy)]
 pub enum RawField {
     Cut,
     Field(u8, usize),
 }
 
 // A refusal's number; or the tag and the length of the body.
-#[derive(Drop)]
+#[derive(Clone, Copy)]
 pub enum Header {
     Refused(u8),
     Field(u8, usize),

@@ -1,4 +1,6 @@
 // The fields of a file, front to back: a field whatever its tag; and of a set file tags, numbers of refusals, and a field's header.
+#![tactic(auto)]
+
 mod numbers; // numbers of refusals, and tags
 mod tag; // the tags of a constraint's field
 mod header; // a field's header

@@ -1,7 +1,7 @@
 // Numbers of refusals, as document 01 and the change requests have them, and the tags of fields.
 
 // A refusal's number, or that what was read is good.
-#[derive(Drop)]
+#[derive(Clone, Copy)]
 pub enum Taken {
     Refused(u8),
     Good,

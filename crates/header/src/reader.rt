@@ -4,14 +4,14 @@ ghost use Rattle.header.specs.Header.{header_of, front_of};
 
 use super::header::{Header, header_at};
 
-#[derive(Drop)]
+#[derive(Clone, Copy)]
 pub struct Reader<'a> {
     pub file: &'a [u8],
     pub at: usize,
 }
 
 // The field at the front of what is left: its header, and the offset of its first byte.
-#[derive(Drop)]
+#[derive(Clone, Copy)]
 pub struct FrontField {
     pub header: Header,
     pub at: usize,

@@ -1,4 +1,6 @@
 // The verdict program: loads the first 8,192 bytes of standard input and prints one line.
+#![tactic(auto)]
+
 use libc::{STDIN_FILENO, STDOUT_FILENO};
 
 fn main() {

@@ -8,7 +8,7 @@ use decimal::digits_of;
 // A word of at most 8 bytes, three numbers of at most 20 digits with a space before each, and the line's end fit.
 pub const LONGEST_LINE: usize = 80;
 
-#[derive(Drop)]
+#[derive(Clone, Copy)]
 pub struct Draft {
     pub bytes: [u8; LONGEST_LINE],
     pub len: usize,

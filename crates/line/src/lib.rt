@@ -1,4 +1,6 @@
 // The verdict program's line: what it says of a file, and its bytes in a lent buffer.
+#![tactic(auto)]
+
 mod draft; // bytes of a line under construction
 mod printer; // the line into a lent buffer
 mod judging; // the line of a file

@@ -7,7 +7,7 @@ ghost use Rattle.line.specs.way.Draft.{draft_bytes};
 use super::draft::{Draft, with_byte, with_number, word_draft};
 
 // Accepted, with the counts of read points, outputs and constraints; or the refusal of the load and its offset; or why the verdict rejects the set.
-#[derive(Drop)]
+#[derive(Clone, Copy)]
 pub enum Line {
     Accept { r: usize, n: usize, m: usize },
     Load { number: u8, offset: usize },

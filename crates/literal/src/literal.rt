@@ -10,7 +10,7 @@ use header::{BAD_LITERAL, NO_HIGH_READ, NO_OUTPUT, NOT_RISING, Taken, literal_si
 use scan::{Constraint, MOST_OUTPUTS, MOST_READS};
 
 // A literal as its bytes say it. clear: the bits that have to be zero are.
-#[derive(Drop)]
+#[derive(Clone, Copy)]
 pub struct Said {
     pub clear: bool,
     pub out: bool,
@@ -19,7 +19,7 @@ pub struct Said {
     pub rank: u8,
 }
 
-#[derive(Drop)]
+#[derive(Clone, Copy)]
 pub struct Literals {
     pub taken: Taken,
     pub made: Constraint,

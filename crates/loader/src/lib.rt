@@ -1,4 +1,6 @@
 // Loading a set file.
+#![tactic(auto)]
+
 mod point; // the bodies of read points and outputs
 mod step; // the fields of read points and outputs
 mod rest; // the field of the rest word

@@ -22,47 +22,47 @@ use scan::{
 use shape::{are_counts_ok, is_sensor};
 
 // A file was loaded; or the number of the refusal and the offset of the field's first byte.
-#[derive(Drop)]
+#[derive(Clone, Copy)]
 pub enum LoadAnswer {
     Loaded,
     Refused { number: u8, offset: usize },
 }
 
 // The answer, and the set: with every field zero where the file is refused.
-#[derive(Drop)]
+#[derive(Clone, Copy)]
 pub struct Loaded {
     pub answer: LoadAnswer,
     pub set: Set,
 }
 
 // The place of the next field; or a refusal's number and the offset of the field's first byte.
-#[derive(Drop)]
+#[derive(Clone, Copy)]
 pub enum Progress {
     At(usize),
     Refused(u8, usize),
 }
 
 // What the fields of one kind give, and how far they bring the load.
-#[derive(Drop)]
+#[derive(Clone, Copy)]
 pub struct Counts {
     pub progress: Progress,
     pub r: usize,
     pub n: usize,
 }
 
-#[derive(Drop)]
+#[derive(Clone, Copy)]
 pub struct Reads {
     pub progress: Progress,
     pub reads: [ReadPoint; MOST_READS],
 }
 
-#[derive(Drop)]
+#[derive(Clone, Copy)]
 pub struct Outputs {
     pub progress: Progress,
     pub outputs: [OutputPoint; MOST_OUTPUTS],
 }
 
-#[derive(Drop)]
+#[derive(Clone, Copy)]
 pub struct Constraints {
     pub progress: Progress,
     pub m: usize,

@@ -10,20 +10,20 @@ use header::{BAD_KIND, BAD_NAME_BYTE, NAME_USED, Taken};
 use scan::{Kind, MOST_OUTPUTS, MOST_READS, NAME_PLACES, ReadPoint};
 use shape::{is_name_used, spell};
 
-#[derive(Drop)]
+#[derive(Clone, Copy)]
 pub struct NameField {
     pub taken: Taken,
     pub name: [u8; NAME_PLACES],
 }
 
-#[derive(Drop)]
+#[derive(Clone, Copy)]
 pub struct ReadField {
     pub taken: Taken,
     pub read: ReadPoint,
 }
 
 // What two bytes tell of a read point's kind.
-#[derive(Drop)]
+#[derive(Clone, Copy)]
 pub enum KindRead {
     Bad,
     Known(Kind),

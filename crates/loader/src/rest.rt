@@ -11,7 +11,7 @@ use header::{BAD_REST, Header, TAG_REST, Taken, front_at};
 use words::fits16;
 
 // How far the field brings the load, and its rest word: 0 where there is no such field.
-#[derive(Drop)]
+#[derive(Clone, Copy)]
 pub struct RestStep {
     pub progress: Progress,
     pub rest: u16,

@@ -12,13 +12,13 @@ use header::{Header, TAG_OUTPUT, TAG_READ, Taken, front_at};
 use scan::{Kind, MOST_OUTPUTS, MOST_READS, NAME_PLACES, ReadPoint};
 
 // How far the field brings the load, and what its body gives where it is taken.
-#[derive(Drop)]
+#[derive(Clone, Copy)]
 pub struct ReadStep {
     pub progress: Progress,
     pub read: ReadPoint,
 }
 
-#[derive(Drop)]
+#[derive(Clone, Copy)]
 pub struct NameStep {
     pub progress: Progress,
     pub name: [u8; NAME_PLACES],

@@ -11,7 +11,7 @@ use scan::{Holds, Set, State, Walk, active_at, build_by, columns_of, start_vecto
 use shape::well_formed;
 
 // A scan's answer: the vector sent and the passes made, or why it is refused.
-#[derive(Drop)]
+#[derive(Clone, Copy)]
 pub enum ScanAnswer {
     Sent { vector: u16, passes: u16 },
     BadState,
@@ -21,7 +21,7 @@ pub enum ScanAnswer {
 }
 
 // The answer, and the state for the next scan: of a refused scan the state as it was.
-#[derive(Drop)]
+#[derive(Clone, Copy)]
 pub struct Scanned {
     pub answer: ScanAnswer,
     pub state: State,

@@ -28,7 +28,7 @@ pub fn sensor_before(accepted: bool, sensor: u32, present: u32) -> u32
 }
 
 // The read points that are no sensors, and the read word.
-#[derive(Drop)]
+#[derive(Clone, Copy)]
 pub struct ReadPoints {
     pub past: u32,
     pub word: u32,

@@ -1,4 +1,6 @@
 // A set in bytes that the caller keeps, so that a scan need not load its file again. The caller does not look into them.
+#![tactic(auto)]
+
 mod putting; // the bytes of a set
 mod said; // the set that bytes say
 

@@ -11,7 +11,7 @@ use choice::least;
 pub const WORDS: usize = 8;
 
 // Of each value of read points 0 to 2 the constraints whose literals of these points are true there.
-#[derive(Drop)]
+#[derive(Clone, Copy)]
 pub struct Lows {
     pub of: [u64; WORDS],
 }

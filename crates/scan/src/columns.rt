@@ -9,7 +9,7 @@ use choice::least;
 
 // Of each constraint: the read points named plain, all the read points named, the outputs named plain and those named negated; and which constraints are simple, bit i
 // being constraint i. The places beyond the constraints are zero.
-#[derive(Drop)]
+#[derive(Clone, Copy)]
 pub struct Columns {
     pub read_plain: [u32; MOST_CONSTRAINTS],
     pub read_named: [u32; MOST_CONSTRAINTS],

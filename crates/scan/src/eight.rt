@@ -9,7 +9,7 @@ use choice::least;
 
 // Of each entry: the outputs from 3 on that it names plain, all of these that it names, and the byte of its literals of outputs 0 to 2. The places beyond the
 // entries are zero.
-#[derive(Drop)]
+#[derive(Clone, Copy)]
 pub struct Eight {
     pub plain: [u16; MOST_CONSTRAINTS],
     pub named: [u16; MOST_CONSTRAINTS],

@@ -7,7 +7,7 @@ use super::table::{NEVER, fill_up};
 use choice::least;
 
 // The entries below count: the outputs named plain, and all the outputs named; filled up as those of a table are.
-#[derive(Drop)]
+#[derive(Clone, Copy)]
 pub struct Entries {
     pub count: usize,
     pub plain: [u16; MOST_CONSTRAINTS],

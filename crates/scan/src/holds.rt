@@ -12,7 +12,7 @@ use super::set::{MOST_CONSTRAINTS, Set};
 use choice::{both, least};
 
 // What the simple constraints force: the outputs held to 0 (F0) and to 1 (F1); or, where one is forced both ways, the lowest such output.
-#[derive(Drop)]
+#[derive(Clone, Copy)]
 pub enum Holds {
     Forced { f0: u16, f1: u16 },
     Clash { output: u16 },

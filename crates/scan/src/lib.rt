@@ -1,4 +1,6 @@
 // The scan part of the ranked safety filter: what a set is, and the walk at a read word. It knows nothing of files and of the verdict.
+#![tactic(auto)]
+
 mod pick; // choices between words as values
 mod set; // what a set and a state are made of
 mod constraint; // one constraint

@@ -14,26 +14,26 @@ pub const MOST_CONSTRAINTS: usize = 64;
 pub const NAME_PLACES: usize = 8;
 
 // What a read point reads; the number inside is an output's, or an earlier read point's.
-#[derive(Drop)]
+#[derive(Clone, Copy)]
 pub enum Kind {
     Sensor,
     PastOutput(u8),
     PastSensor(u8),
 }
 
-#[derive(Drop)]
+#[derive(Clone, Copy)]
 pub struct ReadPoint {
     pub kind: Kind,
     pub name: [u8; NAME_PLACES],
 }
 
-#[derive(Drop)]
+#[derive(Clone, Copy)]
 pub struct OutputPoint {
     pub name: [u8; NAME_PLACES],
 }
 
 // A product of literals: masks of the points named plain and negated, bit k being point k, and the rank of each output named.
-#[derive(Drop)]
+#[derive(Clone, Copy)]
 pub struct Constraint {
     pub read_plain: u32,
     pub read_negated: u32,
@@ -44,7 +44,7 @@ pub struct Constraint {
 
 // r read points, n outputs and m constraints; the rest word, whose bit k says that output k counts as on before the first scan. The places beyond the
 // counts are zero.
-#[derive(Drop)]
+#[derive(Clone, Copy)]
 pub struct Set {
     pub r: usize,
     pub n: usize,
@@ -56,7 +56,7 @@ pub struct Set {
 }
 
 // A set, with the vector sent and the sensor word of the scan before, and whether a scan was accepted since the start.
-#[derive(Drop)]
+#[derive(Clone, Copy)]
 pub struct State {
     pub set: Set,
     pub past_output: u16,

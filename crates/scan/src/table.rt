@@ -14,7 +14,7 @@ use choice::{either, least};
 
 // The entries below count: the outputs named plain, all the outputs named, and those that yield.
 // They are filled up to a multiple of sixteen with entries that are never true, so that a loop over them has no rest.
-#[derive(Drop)]
+#[derive(Clone, Copy)]
 pub struct Table {
     pub holds: Holds,
     pub limit: u16,

@@ -6,7 +6,7 @@ ghost use Rattle.scan.specs.Walk.{walk_by};
 use super::table::{Table, is_safe, pass_over};
 
 // Where a walk ends: at a safe vector, with the passes made before it; or nowhere.
-#[derive(Drop)]
+#[derive(Clone, Copy)]
 pub enum Walk {
     Safe { vector: u16, passes: u16 },
     Never,

@@ -8,7 +8,7 @@ use super::shape::well_formed;
 use scan::{NAME_PLACES, Set};
 
 // A read point or an output, by its number; or why there is none.
-#[derive(Drop)]
+#[derive(Clone, Copy)]
 pub enum Found {
     Read(usize),
     Output(usize),

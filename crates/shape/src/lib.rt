@@ -1,4 +1,6 @@
 // The points of a set: their names, when the set is well formed, and finding a point by its name.
+#![tactic(auto)]
+
 mod names; // names: padding, comparing, the first point of a name
 mod shape; // when a set is well formed
 mod finding; // finding a point by its name

@@ -50,7 +50,7 @@ fn pad(bytes: &[u8]) -> [u8; NAME_PLACES]
 }
 
 // The eight places of a name, or that bytes are none, beside zeros.
-#[derive(Drop)]
+#[derive(Clone, Copy)]
 pub struct Spelled {
     pub good: bool,
     pub name: [u8; NAME_PLACES],

@@ -1,4 +1,6 @@
 // The program that shows a set file: loads the first 8,192 bytes of standard input and prints the text of the set, or the line of the refusal.
+#![tactic(auto)]
+
 use libc::{STDIN_FILENO, STDOUT_FILENO};
 
 fn main() {

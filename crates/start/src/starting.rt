@@ -8,7 +8,7 @@ use scan::{Set, State, zero_set};
 use verdict::{Verdict, judge};
 
 // The verdict, and the state: with every field zero where the set is rejected.
-#[derive(Drop)]
+#[derive(Clone, Copy)]
 pub struct Started {
     pub verdict: Verdict,
     pub state: State,

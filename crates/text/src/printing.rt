@@ -10,7 +10,7 @@ use scan::Set;
 use shape::{names_of_outputs, names_of_reads, well_formed};
 
 // The length of the text; or that the set is not well formed; or the length needed, where the buffer is shorter.
-#[derive(Drop)]
+#[derive(Clone, Copy)]
 pub enum TextPut {
     Put(usize),
     BadSet,

@@ -1,5 +1,7 @@
 // The program that is timed: it does one operation on a set file many times and prints a checksum of the answers. Standard input: a byte for the
 // operation, a four-byte count of times, a two-byte length and the file; for scans then a two-byte count and the scans, of six bytes each.
+#![tactic(auto)]
+
 ghost use Rattle.std.specs.Prelude.{◌<◌};
 
 use loader::LoadAnswer;

@@ -1,4 +1,6 @@
 // Numbers as bit words: bit k of a word is its binary digit k. Every function is total: a number past a word's width is a case like the others.
+#![tactic(auto)]
+
 ghost use Rattle.std.specs.Prelude.{◌≡◌, Bool, ◌^◌, min, ltb};
 ghost use Rattle.words.specs.Word.{bit, low, without, meets, popcount};
 

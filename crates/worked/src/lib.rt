@@ -1,1 +1,2 @@
 // Worked cases, by computation: specs/Cases has them, and proofs/CasesHold has their proofs. There is no code here.
+#![tactic(auto)]

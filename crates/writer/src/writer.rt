@@ -13,7 +13,7 @@ use scan::{Constraint, MOST_CONSTRAINTS, MOST_OUTPUTS, MOST_READS, OutputPoint, 
 use shape::{name_length, well_formed};
 
 // The length of the file; or that the set is not well formed; or the length needed, where the buffer is shorter.
-#[derive(Drop)]
+#[derive(Clone, Copy)]
 pub enum Written {
     Wrote(usize),
     BadSet,
