@@ -1,0 +1,54 @@
+-- `scan::entries::enter` meets its contract. The invariant: the entries are those of the constraints passed. Assumes nothing.
+use mathlib.Core.Path.{◌≡◌, sym, ap, ap₂, ◌∙◌}
+use mathlib.Core.Bool.{true}
+use mathlib.Core.List.{List}
+use Prim.Native.Nat.{ℕ, ◌+◌, ◌≤◌, ◌-◌, min}
+use native.Mathlib.Omega.{arith}
+use lib.ListN.{get_or, set}
+use lib.Bits.{bit_or}
+use Rattle.words.specs.Word.{bit}
+use Rattle.scan.specs.declared.entries.Entries.{Entries}
+use Rattle.scan.specs.Set.{most_constraints}
+use Rattle.scan.specs.way.Table.{filled_up}
+use Rattle.scan.specs.way.Entries.{with_one, entries_upto, entries_by}
+use Rattle.scan.proofs.EntriesLaws.{entries_none, entries_on, entries_off}
+use borrow.Author.Rules.{rules}
+use Rattle.scan.proofs.entries.enter.Goals as goal
+use Rattle.scan.proofs.entries.enter.Invariants.{reached}
+
+-- all constraints are passed
+done : (plain negated : List ℕ) (m entered i count : ℕ) (asked named : List ℕ) → reached count asked named ≡ entries_upto plain negated entered i
+    → i ≡ min m most_constraints → (filled : ℕ) → filled ≡ filled_up count → reached filled asked named ≡ entries_by plain negated m entered
+unfolding entries_by
+done plain negated m entered i count asked named inv e filled ef =
+    ap (λ (k : ℕ). reached k asked named) ef
+    ∙ ap (λ (x : Entries). reached (filled_up x.count) x.plain x.named) (inv ∙ ap (entries_upto plain negated entered) e)
+
+pub loop-i-init : goal.loop-i-init
+loop-i-init c =
+    let a = c.args in
+    (omega arith, omega arith, sym (entries_none a.plain.now a.negated.now a.entered))
+
+pub loop-i-preserved-then-on : goal.loop-i-preserved-then-on
+loop-i-preserved-then-on c =
+    let b = c in
+    let l = b.loop-i in
+    let a = b.args in (
+      omega arith,
+      omega arith,
+      ap (with_one (get_or a.plain.now l.i 0) (get_or a.negated.now l.i 0)) l.invariant.2
+          ∙ sym (entries_on a.plain.now a.negated.now a.entered l.i (sym b.bit64-on.ensures ∙ c.if-on.true)),
+    )
+
+pub loop-i-preserved : goal.loop-i-preserved
+loop-i-preserved c =
+    let b = c in
+    let l = b.loop-i in
+    let a = b.args in
+    (omega arith, omega arith, l.invariant.2 ∙ sym (entries_off a.plain.now a.negated.now a.entered l.i (sym b.bit64-on.ensures ∙ c.if-on.false)))
+
+pub returns : goal.returns
+returns c =
+    let l = c.loop-i in
+    let a = c.args in
+    done a.plain.now a.negated.now a.m a.entered l.i l.count l.asked l.named l.invariant.2 (omega arith) c.fill_up.result c.fill_up.ensures

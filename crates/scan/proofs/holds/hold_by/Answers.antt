@@ -1,0 +1,44 @@
+-- `scan::holds::hold_by` meets its contract. The invariant: the two masks are those of the constraints passed. Assumes nothing.
+use mathlib.Core.Path.{◌≡◌, refl, ap, ◌∙◌}
+use mathlib.Core.List.{List}
+use Prim.Native.Nat.{ℕ, ◌≤◌, ◌-◌, min}
+use native.Mathlib.Omega.{arith}
+use Rattle.words.specs.Loop.{gather}
+use Rattle.words.proofs.LoopTurns.{gather_none, kept_turn}
+use Rattle.scan.specs.Set.{most_constraints}
+use Rattle.scan.specs.Holds.{reckoned}
+use Rattle.scan.specs.way.Holds.{kept_at, holds_by}
+use borrow.Author.Rules.{rules}
+use Rattle.scan.proofs.holds.hold_by.Goals as goal
+
+-- all constraints are passed
+done : (plain negated : List ℕ) (m holding z o i : ℕ) → i ≡ min m most_constraints → z ≡ gather i (kept_at plain holding) → o ≡ gather i (kept_at negated holding)
+    → reckoned z o ≡ holds_by plain negated m holding
+unfolding holds_by
+done plain negated m holding z o i e p q = λ j. reckoned ((p ∙ ap (λ (k : ℕ). gather k (kept_at plain holding)) e) j) ((q ∙ ap (λ (k : ℕ). gather k (kept_at negated holding)) e) j)
+
+pub loop-i-init : goal.loop-i-init
+loop-i-init c = (omega arith, gather_none _, gather_none _)
+
+pub loop-i-preserved : goal.loop-i-preserved
+unfolding kept_at
+loop-i-preserved c =
+    let f = c in
+    let b = f in
+    let l = b.loop-i in
+    let a = b.args in (
+      omega arith,
+      kept_turn (kept_at a.plain.now a.holding) l.i l.f0 f.keep16-f0.result _ _ b.bit64-held.result _
+          l.invariant.1 b.bit64-held.ensures refl refl f.keep16-f0.ensures,
+      kept_turn (kept_at a.negated.now a.holding) l.i l.f1 c.keep16-f1.result _ _ b.bit64-held.result _
+          l.invariant.2 b.bit64-held.ensures refl refl c.keep16-f1.ensures,
+    )
+
+pub returns : goal.returns
+returns c =
+    let e = c in
+    let l = e.loop-i in
+    let a = e.args in
+    let told : c.reckon.result ≡ reckoned l.f0 l.f1 = c.reckon.ensures in
+    told
+    ∙ done a.plain.now a.negated.now a.m a.holding l.f0 l.f1 l.i (omega arith) l.invariant.1 l.invariant.2

@@ -1,0 +1,16 @@
+-- `scan::holds::lowest_both` meets its contract. The invariant: none of the outputs passed is in both words. Assumes nothing.
+use mathlib.Core.Path.{◌≡◌, sym, ap₂, ◌∙◌}
+use mathlib.Core.Bool.{Bool, ◌&&◌}
+use Prim.Native.Nat.{ℕ, ◌-◌}
+use native.Mathlib.Omega.{arith}
+use Rattle.words.specs.Word.{bit}
+use Rattle.words.proofs.LoopTurns.{Missed, missed_none, missed_one, missed_here, missed_all}
+use Rattle.scan.specs.Holds.{both_ways}
+use borrow.Author.Rules.{rules}
+use Rattle.scan.proofs.holds.lowest_both.Given as goal
+
+abbrev pub invariant-loop-k : goal.invariant-loop-k
+invariant-loop-k l = Missed 16 (both_ways l.f0 l.f1) l.k
+
+abbrev pub decreases-loop-k : goal.decreases-loop-k
+decreases-loop-k l = 16 - l.k

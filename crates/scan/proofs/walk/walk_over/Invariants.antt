@@ -1,0 +1,24 @@
+-- `scan::walk::walk_over` meets its contract. The invariant: what is left of the walk gives what the whole walk gives. Assumes nothing.
+use mathlib.Core.Path.{◌≡◌, sym, ap, ◌∙◌}
+use mathlib.Core.Bool.{Bool, true, false}
+use Prim.Native.Nat.{ℕ, ◌+◌, ◌-◌, ◌≤◌, ◌<◌}
+use native.Mathlib.Omega.{arith}
+use native.Mathlib.Nat.{sub-zero}
+use Rattle.scan.specs.declared.table.Table.{Table}
+use Rattle.scan.specs.declared.walk.Walk.{Walk}
+use Rattle.scan.specs.declared.walk.Walk.TheVariants.{Safe, Never}
+use Rattle.scan.specs.way.Table.{safe_over, pass_over}
+use Rattle.scan.specs.Walk.{walk_by}
+use Rattle.scan.proofs.WalkLaws.{by_stop, by_on, by_never}
+use borrow.Author.Rules.{rules}
+use Rattle.scan.proofs.walk.walk_over.Given as goal
+
+-- the walk over the table's entries, with these holds
+abbrev pub walk : ℕ → ℕ → Table → ℕ → ℕ → ℕ → Walk
+walk f0 f1 t = walk_by (safe_over f0 f1 t.plain t.named t.count) (pass_over t.plain t.named t.flip t.count)
+
+abbrev pub invariant-loop-made : goal.invariant-loop-made
+invariant-loop-made l = (l.made ≤ l.limit) × (walk l.f0 l.f1 l.t (l.limit - l.made) l.v l.made ≡ walk l.f0 l.f1 l.t l.limit l.from 0)
+
+abbrev pub decreases-loop-made : goal.decreases-loop-made
+decreases-loop-made l = l.limit - l.made
