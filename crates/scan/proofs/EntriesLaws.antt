@@ -1,9 +1,9 @@
 -- The entries of the active constraints: one more, what they tell, and that they tell which vectors are safe at a read word of a well-formed set.
 -- Assumes nothing.
 use mathlib.Core.Path.{◌≡◌, refl, sym, ap, ap₂, subst, ◌∙◌}
-use mathlib.Core.Bool.{Bool, true, false, cond, not, ◌&&◌, ◌||◌, or-false}
+use mathlib.Core.Bool.{Bool, true, false, not, ◌&&◌, ◌||◌, or-false}
 use mathlib.Core.List.{List}
-use Prim.Native.Nat.{ℕ, zero, suc, ◌+◌, ◌≤◌, ◌<◌, min}
+use Prim.Native.Nat.{ℕ, zero, suc, ◌+◌, ◌≤◌, ◌<◌}
 use native.Mathlib.Numerals.{add-one}
 use native.Mathlib.Omega.{arith}
 use lib.Dec.{eqb}
@@ -22,7 +22,7 @@ use Rattle.scan.specs.Set.{most_constraints, constraint}
 use Rattle.scan.specs.Shape.{well_formed}
 use Rattle.scan.specs.Constraint.{outs_true, is_true, true_at, safe}
 use Rattle.scan.specs.Active.{active_of}
-use Rattle.scan.specs.way.Columns.{counted, columns_of, entry_true}
+use Rattle.scan.specs.way.Columns.{columns_of, entry_true}
 use Rattle.scan.specs.way.Table.{filled_up, any_true, safe_over}
 use Rattle.scan.specs.way.Entries.{no_entries, with_one, entries_upto, entries_by}
 use Rattle.scan.proofs.ShapeLaws.{counts, masks, wide}

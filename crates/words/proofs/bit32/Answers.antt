@@ -1,7 +1,6 @@
 -- `words::bit32` meets its contract. Assumes nothing.
 use mathlib.Core.Path.{sym}
 use Rattle.words.proofs.BitLaws.{bit_shifted, bit_above}
-use borrow.Author.Rules.{rules}
 use Rattle.words.proofs.bit32.Goals as goal
 
 pub returns-then-k-lt32 : goal.returns-then-k-lt32

@@ -1,7 +1,6 @@
 -- `words::bit64` meets its contract. Assumes nothing.
 use mathlib.Core.Path.{sym}
 use Rattle.words.proofs.BitLaws.{bit_shifted, bit_above}
-use borrow.Author.Rules.{rules}
 use Rattle.words.proofs.bit64.Goals as goal
 
 pub returns-then-k-lt64 : goal.returns-then-k-lt64

@@ -6,7 +6,6 @@ use lib.Dec.{ltb}
 use lib.Pow.{pow_mono}
 use borrow.Author.Tests.{lt-ltb}
 use Rattle.words.proofs.ShiftLaws.{one_shl}
-use borrow.Author.Rules.{rules}
 use Rattle.words.proofs.fits32.Goals as goal
 
 pub returns-then-n-lt32 : goal.returns-then-n-lt32

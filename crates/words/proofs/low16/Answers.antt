@@ -4,7 +4,6 @@ use Prim.Native.Nat.{ℕ, ◌-◌, ◌^◌}
 use native.Mathlib.Nat.{min-eq_left, min-eq_right}
 use native.Mathlib.Omega.{arith}
 use Rattle.words.proofs.ShiftLaws.{one_shl_pos, one_shl_sub}
-use borrow.Author.Rules.{rules}
 use Rattle.words.proofs.low16.Goals as goal
 
 pub overflow_sub-result : goal.overflow_sub-result

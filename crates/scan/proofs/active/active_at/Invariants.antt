@@ -1,11 +1,8 @@
 -- `scan::active::active_at` meets its contract. The invariant: `active` has the active ones of the constraints passed. Assumes nothing.
-use mathlib.Core.Path.{◌≡◌, refl, ap, ◌∙◌}
-use Prim.Native.Nat.{ℕ, ◌≤◌, ◌-◌}
-use native.Mathlib.Omega.{arith}
+use mathlib.Core.Path.{◌≡◌}
+use Prim.Native.Nat.{◌≤◌, ◌-◌}
 use Rattle.words.specs.Loop.{word}
-use Rattle.words.proofs.LoopTurns.{word_none, word_turn}
-use Rattle.scan.specs.way.Columns.{entry_true, active_by}
-use borrow.Author.Rules.{rules}
+use Rattle.scan.specs.way.Columns.{entry_true}
 use Rattle.scan.proofs.active.active_at.Given as goal
 
 abbrev pub invariant-loop-i : goal.invariant-loop-i

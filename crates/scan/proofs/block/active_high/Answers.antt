@@ -1,11 +1,10 @@
 -- `scan::block::active_high` meets its contract. The invariant: `active` has those of the constraints passed whose other read literals are true. Assumes nothing.
-use mathlib.Core.Path.{◌≡◌, refl, ap, ◌∙◌}
-use Prim.Native.Nat.{ℕ, ◌≤◌, ◌-◌}
+use mathlib.Core.Path.{refl, ap, ◌∙◌}
+use Prim.Native.Nat.{ℕ}
 use native.Mathlib.Omega.{arith}
 use Rattle.words.specs.Loop.{word}
 use Rattle.words.proofs.LoopTurns.{word_none, word_turn}
 use Rattle.scan.specs.way.Block.{high_asked, active_high}
-use borrow.Author.Rules.{rules}
 use Rattle.scan.proofs.block.active_high.Goals as goal
 
 pub loop-i-init : goal.loop-i-init

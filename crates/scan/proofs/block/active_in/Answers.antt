@@ -1,7 +1,6 @@
 -- `scan::block::active_in` meets its contract. Assumes nothing.
 use mathlib.Core.Path.{refl}
 use Rattle.scan.specs.way.Block.{active_in}
-use borrow.Author.Rules.{rules}
 use Rattle.scan.proofs.block.active_in.Goals as goal
 
 pub returns : goal.returns

@@ -1,11 +1,8 @@
 -- `scan::block::active_low` meets its contract. The invariant: `active` has those of the constraints passed whose literals of read points 0 to 2 are true. Assumes nothing.
-use mathlib.Core.Path.{◌≡◌, refl, ap, ◌∙◌}
-use Prim.Native.Nat.{ℕ, ◌≤◌, ◌-◌}
-use native.Mathlib.Omega.{arith}
+use mathlib.Core.Path.{◌≡◌}
+use Prim.Native.Nat.{◌≤◌, ◌-◌}
 use Rattle.words.specs.Loop.{word}
-use Rattle.words.proofs.LoopTurns.{word_none, word_turn}
-use Rattle.scan.specs.way.Block.{low_asked, active_low}
-use borrow.Author.Rules.{rules}
+use Rattle.scan.specs.way.Block.{low_asked}
 use Rattle.scan.proofs.block.active_low.Given as goal
 
 abbrev pub invariant-loop-i : goal.invariant-loop-i

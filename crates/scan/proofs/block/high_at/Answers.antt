@@ -1,12 +1,10 @@
 -- `scan::block::high_at` meets its contract. Assumes nothing.
-use mathlib.Core.Path.{◌≡◌, sym, ap, ◌∙◌}
-use mathlib.Core.Bool.{Bool, cond}
+use mathlib.Core.Path.{◌≡◌, ◌∙◌}
 use mathlib.Core.List.{List}
 use Prim.Native.Nat.{ℕ, ◌%◌}
 use borrow.Author.Tests.{eq-eqb, ne_eqb}
 use Rattle.words.proofs.BoolLaws.{cond_true, cond_false}
 use Rattle.scan.specs.way.Block.{active_high, high_at}
-use borrow.Author.Rules.{rules}
 use Rattle.scan.proofs.block.high_at.Goals as goal
 
 module _ (plain named : List ℕ) (m w kept : ℕ) where

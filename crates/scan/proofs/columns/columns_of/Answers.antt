@@ -1,17 +1,15 @@
 -- `scan::columns::columns_of` meets its contract. The invariant: each list has the literals of the constraints passed, and then zeros. Assumes nothing.
 use mathlib.Core.Path.{◌≡◌, refl}
 use mathlib.Core.List.{List}
-use Prim.Native.Nat.{ℕ, ◌≤◌, ◌-◌}
+use Prim.Native.Nat.{ℕ}
 use native.Mathlib.Omega.{arith}
 use Rattle.words.specs.Loop.{word}
 use Rattle.words.proofs.LoopTurns.{word_none, word_turn}
-use Rattle.scan.specs.declared.set.Constraint.{Constraint}
 use Rattle.scan.specs.declared.set.Set.{Set}
 use Rattle.scan.specs.declared.columns.Columns.{Columns}
 use Rattle.scan.specs.Set.{constraint}
 use Rattle.scan.specs.way.Columns.{counted, of_each, column_upto, reads_named, simple_at, columns_of}
 use Rattle.scan.proofs.PlacesLaws.{places_none, places_more}
-use borrow.Author.Rules.{rules}
 use Rattle.scan.proofs.columns.columns_of.Goals as goal
 
 -- all constraints are passed

@@ -3,7 +3,6 @@ use mathlib.Core.Path.{ap}
 use Prim.Native.Nat.{ℕ}
 use lib.Dec.{eqb}
 use Rattle.scan.specs.Constraint.{simple}
-use borrow.Author.Rules.{rules}
 use Rattle.scan.proofs.constraint.is_simple.Goals as goal
 
 pub returns : goal.returns

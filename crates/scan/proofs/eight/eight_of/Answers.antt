@@ -1,14 +1,13 @@
 -- `scan::eight::eight_of` meets its contract. The invariant: each list has the parts of the entries passed, and then zeros. Assumes nothing.
 use mathlib.Core.Path.{◌≡◌, refl}
 use mathlib.Core.List.{List}
-use Prim.Native.Nat.{ℕ, ◌≤◌, ◌-◌, min}
+use Prim.Native.Nat.{ℕ, min}
 use native.Mathlib.Omega.{arith}
 use Rattle.scan.specs.declared.eight.Eight.{Eight}
 use Rattle.scan.specs.Set.{most_constraints}
 use Rattle.scan.specs.way.Columns.{places_upto}
 use Rattle.scan.specs.way.Eight.{high_part, low_part, eight_of}
 use Rattle.scan.proofs.PlacesLaws.{places_none, places_more}
-use borrow.Author.Rules.{rules}
 use Rattle.scan.proofs.eight.eight_of.Goals as goal
 
 -- all entries are passed

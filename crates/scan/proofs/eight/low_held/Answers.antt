@@ -2,7 +2,6 @@
 use mathlib.Core.Path.{◌≡◌, ap₂}
 use lib.Bits.{bit_and}
 use Rattle.scan.specs.way.Eight.{low_true, low_held}
-use borrow.Author.Rules.{rules}
 use Rattle.scan.proofs.eight.low_held.Goals as goal
 
 pub returns : goal.returns

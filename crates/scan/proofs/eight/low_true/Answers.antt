@@ -7,7 +7,6 @@ use lib.Bits.{bit_and, bit_or}
 use Rattle.words.specs.Loop.{word}
 use Rattle.words.proofs.LoopTurns.{word_none, word_step}
 use Rattle.scan.specs.way.Eight.{low_true}
-use borrow.Author.Rules.{rules}
 use Rattle.scan.proofs.eight.low_true.Goals as goal
 
 module _ (plain named : ℕ) where

@@ -7,7 +7,6 @@ use Rattle.words.specs.Word.{without, meets}
 use Rattle.words.proofs.BoolLaws.{cond_true, cond_false}
 use Rattle.scan.specs.way.Table.{flips_over}
 use Rattle.scan.specs.way.Eight.{safe_byte}
-use borrow.Author.Rules.{rules}
 use Rattle.scan.proofs.eight.safe_byte.Goals as goal
 
 module _ (held f0 f1 : ℕ) (plain named low : List ℕ) (count b : ℕ) where

@@ -7,7 +7,6 @@ use Rattle.scan.specs.declared.columns.Columns.{Columns}
 use Rattle.scan.specs.declared.holds.Holds.{Holds}
 use Rattle.scan.specs.way.Columns.{columns_of, active_by}
 use Rattle.scan.specs.way.Holds.{holds_by, holds_at}
-use borrow.Author.Rules.{rules}
 use Rattle.scan.proofs.holds.hold.Goals as goal
 
 -- the active simple constraints hold

@@ -1,14 +1,13 @@
 -- `scan::holds::hold_by` meets its contract. The invariant: the two masks are those of the constraints passed. Assumes nothing.
 use mathlib.Core.Path.{◌≡◌, refl, ap, ◌∙◌}
 use mathlib.Core.List.{List}
-use Prim.Native.Nat.{ℕ, ◌≤◌, ◌-◌, min}
+use Prim.Native.Nat.{ℕ, min}
 use native.Mathlib.Omega.{arith}
 use Rattle.words.specs.Loop.{gather}
 use Rattle.words.proofs.LoopTurns.{gather_none, kept_turn}
 use Rattle.scan.specs.Set.{most_constraints}
 use Rattle.scan.specs.Holds.{reckoned}
 use Rattle.scan.specs.way.Holds.{kept_at, holds_by}
-use borrow.Author.Rules.{rules}
 use Rattle.scan.proofs.holds.hold_by.Goals as goal
 
 -- all constraints are passed

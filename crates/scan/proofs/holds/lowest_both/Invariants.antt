@@ -1,12 +1,7 @@
 -- `scan::holds::lowest_both` meets its contract. The invariant: none of the outputs passed is in both words. Assumes nothing.
-use mathlib.Core.Path.{◌≡◌, sym, ap₂, ◌∙◌}
-use mathlib.Core.Bool.{Bool, ◌&&◌}
-use Prim.Native.Nat.{ℕ, ◌-◌}
-use native.Mathlib.Omega.{arith}
-use Rattle.words.specs.Word.{bit}
-use Rattle.words.proofs.LoopTurns.{Missed, missed_none, missed_one, missed_here, missed_all}
+use Prim.Native.Nat.{◌-◌}
+use Rattle.words.proofs.LoopTurns.{Missed}
 use Rattle.scan.specs.Holds.{both_ways}
-use borrow.Author.Rules.{rules}
 use Rattle.scan.proofs.holds.lowest_both.Given as goal
 
 abbrev pub invariant-loop-k : goal.invariant-loop-k

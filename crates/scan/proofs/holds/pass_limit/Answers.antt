@@ -4,7 +4,6 @@ use Prim.Native.Nat.{ℕ, ◌-◌, ◌^◌, ◌≤◌, min}
 use native.Mathlib.Nat.{min-eq_left}
 use Rattle.words.specs.Word.{popcount}
 use Rattle.words.proofs.PopcountLaws.{ones_count, count_le}
-use borrow.Author.Rules.{rules}
 use Rattle.scan.proofs.holds.pass_limit.Goals as goal
 
 -- a count of ones is at most 16

@@ -11,7 +11,6 @@ use Rattle.words.proofs.LoopLaws.{first_is}
 use Rattle.scan.specs.declared.holds.Holds.TheVariants.{Forced, Clash}
 use Rattle.scan.specs.Holds.{both_ways, reckoned}
 use Rattle.scan.proofs.HoldsLaws.{reckoned_clash, reckoned_forced, by_reckoned}
-use borrow.Author.Rules.{rules}
 use Rattle.scan.proofs.holds.reckon.Goals as goal
 
 module _ (f0 f1 : ℕ) where

@@ -3,7 +3,6 @@ use mathlib.Core.Path.{ap}
 use Prim.Native.Nat.{ℕ}
 use lib.Bits.{bit_or}
 use Rattle.scan.specs.Holds.{start_from}
-use borrow.Author.Rules.{rules}
 use Rattle.scan.proofs.holds.start_vector.Goals as goal
 
 pub returns : goal.returns

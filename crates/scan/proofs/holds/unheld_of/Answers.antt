@@ -7,7 +7,6 @@ use lib.Bits.{bit_or}
 use Rattle.words.specs.Word.{without}
 use Rattle.scan.specs.Holds.{unheld_by}
 use Rattle.scan.specs.way.Holds.{unheld_from}
-use borrow.Author.Rules.{rules}
 use Rattle.scan.proofs.holds.unheld_of.Goals as goal
 
 pub returns-in-Forced : goal.returns-in-Forced
@@ -17,9 +16,9 @@ returns-in-Forced c =
     let f = l in
     let a = f.args in
     c.without16.ensures
-    ∙ ap (λ (x : ℕ). without x (bit_or f.h-1.given.0.0 f.h-1.given.0.1.0))
+    ∙ ap (λ (x : ℕ). without x (bit_or f.in-Forced.f0 f.in-Forced.f1))
     (l.low16.ensures ∙ ap (λ (k : ℕ). 2 ^ k - 1) (min-eq_left {m = 16} (omega arith)))
-    ∙ ap (unheld_from a.n) (sym f.h-1.given.1)
+    ∙ ap (unheld_from a.n) (sym f.in-Forced.is)
 
 pub returns-in-Clash : goal.returns-in-Clash
-returns-in-Clash c = let a = c.args in ap (unheld_from a.n) (sym c.enum_told-1.given.1)
+returns-in-Clash c = let a = c.args in ap (unheld_from a.n) (sym c.in-Clash.is)

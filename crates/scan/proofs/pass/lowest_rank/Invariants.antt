@@ -1,14 +1,7 @@
 -- `scan::pass::lowest_rank` meets its contract. The invariant: `low` is the lowest rank among the outputs passed. Assumes nothing.
-use mathlib.Core.Path.{◌≡◌, refl, sym, ap, ◌∙◌}
-use mathlib.Core.Bool.{Bool, cond}
-use Prim.Native.Nat.{ℕ, ◌≤◌, ◌-◌, ◌+◌, min}
-use native.Mathlib.Omega.{arith}
-use native.Mathlib.Numerals.{add-one}
-use Rattle.words.specs.Word.{bit}
-use Rattle.scan.specs.declared.set.Constraint.{Constraint}
-use Rattle.scan.specs.Set.{rank}
+use mathlib.Core.Path.{◌≡◌}
+use Prim.Native.Nat.{◌≤◌, ◌-◌}
 use Rattle.scan.specs.Pass.{lowest}
-use borrow.Author.Rules.{rules}
 use Rattle.scan.proofs.pass.lowest_rank.Given as goal
 
 abbrev pub invariant-loop-k : goal.invariant-loop-k

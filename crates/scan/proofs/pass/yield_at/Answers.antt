@@ -6,7 +6,6 @@ use lib.Dec.{eqb}
 use Rattle.words.proofs.ShiftLaws.{one_shl}
 use Rattle.scan.specs.Set.{rank}
 use Rattle.scan.specs.Pass.{has_rank}
-use borrow.Author.Rules.{rules}
 use Rattle.scan.proofs.pass.yield_at.Goals as goal
 
 pub returns : goal.returns

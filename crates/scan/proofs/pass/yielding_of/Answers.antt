@@ -1,11 +1,10 @@
 -- `scan::pass::yielding_of` meets its contract. The invariant: `out` has those of the outputs passed that yield. Assumes nothing.
-use mathlib.Core.Path.{◌≡◌, ap₂, ◌∙◌}
-use Prim.Native.Nat.{ℕ, ◌≤◌, ◌-◌}
+use mathlib.Core.Path.{ap₂, ◌∙◌}
+use Prim.Native.Nat.{ℕ}
 use native.Mathlib.Omega.{arith}
 use Rattle.words.specs.Loop.{word}
 use Rattle.scan.specs.Pass.{has_rank, yielding}
 use Rattle.words.proofs.LoopTurns.{word_none, word_step}
-use borrow.Author.Rules.{rules}
 use Rattle.scan.proofs.pass.yielding_of.Goals as goal
 
 pub loop-k-init : goal.loop-k-init

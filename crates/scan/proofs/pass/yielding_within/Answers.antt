@@ -2,7 +2,6 @@
 use mathlib.Core.Path.{◌∙◌}
 use Rattle.scan.specs.Set.{most_outputs}
 use Rattle.scan.proofs.YieldingLaws.{yielding_wider}
-use borrow.Author.Rules.{rules}
 use Rattle.scan.proofs.pass.yielding_within.Goals as goal
 
 pub returns-then-n-le4 : goal.returns-then-n-le4

@@ -6,7 +6,6 @@ use Rattle.scan.specs.declared.set.OutputPoint.{OutputPoint}
 use Rattle.scan.specs.declared.set.Constraint.{Constraint}
 use Rattle.scan.specs.declared.set.Set.{Set}
 use Rattle.scan.specs.Set.{most_reads, most_outputs, most_constraints, zero_read, zero_output, zero_constraint, zero_set, with_reads, with_outputs, with_constraints}
-use borrow.Author.Rules.{rules}
 use Rattle.scan.proofs.set.zero_set.Goals as goal
 
 -- a set of no points and constraints, of one element in every place

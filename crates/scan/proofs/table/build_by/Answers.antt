@@ -9,7 +9,6 @@ use Rattle.scan.specs.declared.holds.Holds.{Holds}
 use Rattle.scan.specs.declared.table.Table.{Table}
 use Rattle.scan.specs.way.Holds.{holds_by}
 use Rattle.scan.specs.way.Table.{table_by}
-use borrow.Author.Rules.{rules}
 use Rattle.scan.proofs.table.build_by.Goals as goal
 
 -- the active simple constraints hold, and the other active ones are entered

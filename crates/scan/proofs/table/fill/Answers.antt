@@ -2,7 +2,7 @@
 use mathlib.Core.Path.{◌≡◌, sym, ap, ap₂, ◌∙◌}
 use mathlib.Core.Bool.{true}
 use mathlib.Core.List.{List}
-use Prim.Native.Nat.{ℕ, ◌+◌, ◌≤◌, ◌<◌, ◌-◌, ◌^◌}
+use Prim.Native.Nat.{ℕ, ◌+◌, ◌<◌, ◌^◌}
 use native.Mathlib.Nat.{lt_of_le_of_lt}
 use native.Mathlib.Omega.{arith}
 use lib.ListN.{set}
@@ -21,7 +21,6 @@ use Rattle.scan.specs.way.Columns.{counted}
 use Rattle.scan.specs.way.Table.{outputs_in, unheld_in, yields_in, with_entry, with_count, table_upto, filled_up, table_by}
 use Rattle.scan.proofs.HoldsLaws.{without_lt}
 use Rattle.scan.proofs.TableLaws.{upto_none, upto_on, upto_off}
-use borrow.Author.Rules.{rules}
 use Rattle.scan.proofs.table.fill.Goals as goal
 use Rattle.scan.proofs.table.fill.Invariants.{table, reached}
 

@@ -1,12 +1,8 @@
 -- `scan::table::is_any_true` meets its contract. The invariant: `found` tells whether one of the entries passed is true. Assumes nothing.
-use mathlib.Core.Path.{◌≡◌, refl, sym, ap, ◌∙◌}
-use Prim.Native.Nat.{ℕ, ◌≤◌, ◌-◌}
-use native.Mathlib.Omega.{arith}
+use mathlib.Core.Path.{◌≡◌}
+use Prim.Native.Nat.{◌≤◌, ◌-◌}
 use Rattle.words.specs.Loop.{some}
-use Rattle.words.proofs.LoopTurns.{some_none, some_step}
 use Rattle.scan.specs.way.Columns.{entry_true}
-use Rattle.scan.specs.way.Table.{any_true}
-use borrow.Author.Rules.{rules}
 use Rattle.scan.proofs.table.is_any_true.Given as goal
 
 abbrev pub invariant-loop-i : goal.invariant-loop-i

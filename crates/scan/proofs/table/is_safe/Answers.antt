@@ -5,7 +5,6 @@ use mathlib.Core.List.{List}
 use Prim.Native.Nat.{ℕ}
 use Rattle.words.specs.Word.{meets}
 use Rattle.scan.specs.way.Table.{any_true, safe_over}
-use borrow.Author.Rules.{rules}
 use Rattle.scan.proofs.table.is_safe.Goals as goal
 
 module _ (f0 f1 : ℕ) (plain named : List ℕ) (count v : ℕ) where

@@ -2,7 +2,6 @@
 use mathlib.Core.Path.{ap}
 use lib.Bits.{bit_xor}
 use Rattle.scan.specs.way.Table.{pass_over}
-use borrow.Author.Rules.{rules}
 use Rattle.scan.proofs.table.pass_over.Goals as goal
 
 pub returns : goal.returns

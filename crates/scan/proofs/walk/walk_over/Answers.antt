@@ -4,13 +4,10 @@ use mathlib.Core.Bool.{Bool, true, false}
 use Prim.Native.Nat.{ℕ, ◌+◌, ◌-◌, ◌≤◌, ◌<◌}
 use native.Mathlib.Omega.{arith}
 use native.Mathlib.Nat.{sub-zero}
-use Rattle.scan.specs.declared.table.Table.{Table}
 use Rattle.scan.specs.declared.walk.Walk.{Walk}
 use Rattle.scan.specs.declared.walk.Walk.TheVariants.{Safe, Never}
-use Rattle.scan.specs.way.Table.{safe_over, pass_over}
 use Rattle.scan.specs.Walk.{walk_by}
 use Rattle.scan.proofs.WalkLaws.{by_stop, by_on, by_never}
-use borrow.Author.Rules.{rules}
 use Rattle.scan.proofs.walk.walk_over.Goals as goal
 use Rattle.scan.proofs.walk.walk_over.Invariants.{walk}
 

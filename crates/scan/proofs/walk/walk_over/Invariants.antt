@@ -1,16 +1,10 @@
 -- `scan::walk::walk_over` meets its contract. The invariant: what is left of the walk gives what the whole walk gives. Assumes nothing.
-use mathlib.Core.Path.{◌≡◌, sym, ap, ◌∙◌}
-use mathlib.Core.Bool.{Bool, true, false}
-use Prim.Native.Nat.{ℕ, ◌+◌, ◌-◌, ◌≤◌, ◌<◌}
-use native.Mathlib.Omega.{arith}
-use native.Mathlib.Nat.{sub-zero}
+use mathlib.Core.Path.{◌≡◌}
+use Prim.Native.Nat.{ℕ, ◌-◌, ◌≤◌}
 use Rattle.scan.specs.declared.table.Table.{Table}
 use Rattle.scan.specs.declared.walk.Walk.{Walk}
-use Rattle.scan.specs.declared.walk.Walk.TheVariants.{Safe, Never}
 use Rattle.scan.specs.way.Table.{safe_over, pass_over}
 use Rattle.scan.specs.Walk.{walk_by}
-use Rattle.scan.proofs.WalkLaws.{by_stop, by_on, by_never}
-use borrow.Author.Rules.{rules}
 use Rattle.scan.proofs.walk.walk_over.Given as goal
 
 -- the walk over the table's entries, with these holds
