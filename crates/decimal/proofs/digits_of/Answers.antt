@@ -1,0 +1,28 @@
+-- `decimal::digits_of` meets its contract. The loop's invariant: what is left of the number, written before the bytes from `at` on, gives the digits.
+use Prim.Native.Nat.{◌≤◌, ◌-◌}
+use borrow.Author.Rules.{rules}
+use mathlib.Core.Path.{◌≡◌, refl, ◌∙◌}
+use mathlib.Core.List.{◌++◌}
+use native.Mathlib.Omega.{arith}
+use lib.ListN.{length, take, drop, replicate, length-set}
+use Rattle.decimal.specs.Decimal.{last_digit, leading, decimal}
+use Rattle.decimal.proofs.DecimalLaws.{digits_start, digits_more, digits_end, digits_full, zeros_before}
+use Rattle.decimal.proofs.digits_of.Goals as goal
+
+pub loop-at-init : goal.loop-at-init
+loop-at-init c = (search rules, search rules, digits_start c.args.n, refl)
+
+pub returns-then-rest-eq0 : goal.returns-then-rest-eq0
+returns-then-rest-eq0 c = let l = c.loop-at in (omega arith, digits_end _ _ _ _ c.if-rest-eq0.true l.invariant.2, l.invariant.3)
+
+pub loop-at-preserved : goal.loop-at-preserved
+loop-at-preserved c =
+    let l = c.loop-at in (
+      omega arith,
+      length-set l.bytes (l.at - 1) (last_digit l.rest) ∙ l.invariant.1,
+      digits_more _ l.bytes l.at l.rest c.loop-at-test.true (omega arith) c.if-rest-eq0.false l.invariant.2,
+      zeros_before l.bytes l.at (last_digit l.rest) c.loop-at-test.true l.invariant.3,
+    )
+
+pub returns : goal.returns
+returns c = let l = c.loop-at in (omega arith, digits_full _ _ _ _ (omega arith) l.invariant.2, l.invariant.3)

@@ -1,0 +1,17 @@
+-- `decimal::digits_of` meets its contract. The loop's invariant: what is left of the number, written before the bytes from `at` on, gives the digits.
+-- Assumes nothing.
+use Prim.Native.Nat.{◌≤◌, ◌-◌}
+use borrow.Author.Rules.{rules}
+use mathlib.Core.Path.{◌≡◌, refl, ◌∙◌}
+use mathlib.Core.List.{◌++◌}
+use native.Mathlib.Omega.{arith}
+use lib.ListN.{length, take, drop, replicate, length-set}
+use Rattle.decimal.specs.Decimal.{last_digit, leading, decimal}
+use Rattle.decimal.proofs.DecimalLaws.{digits_start, digits_more, digits_end, digits_full, zeros_before}
+use Rattle.decimal.proofs.digits_of.Given as goal
+
+abbrev pub invariant-loop-at : goal.invariant-loop-at
+invariant-loop-at l = (l.at ≤ 19) × (length l.bytes ≡ 20) × (leading l.at l.rest ++ drop l.at l.bytes ≡ decimal l.n) × (take l.at l.bytes ≡ replicate l.at 0)
+
+abbrev pub decreases-loop-at : goal.decreases-loop-at
+decreases-loop-at l = l.at

@@ -1,0 +1,14 @@
+-- `shape::shape::are_ranks_zero` meets its contract. The loop's invariant: `ok` tells whether the ranks before k are 0. Assumes nothing.
+use mathlib.Core.Path.{refl}
+use Prim.Native.Nat.{◌-◌}
+use Rattle.scan.specs.Set.{most_outputs}
+use Rattle.scan.specs.Shape.{rank_zero}
+use Rattle.words.proofs.LoopTurns.{Passed, passed_none, passed_one, passed_all}
+use borrow.Author.Rules.{rules}
+use Rattle.shape.proofs.shape.are_ranks_zero.Given as goal
+
+abbrev pub invariant-loop-k : goal.invariant-loop-k
+invariant-loop-k l = Passed most_outputs (rank_zero l.c) l.ok l.k
+
+abbrev pub decreases-loop-k : goal.decreases-loop-k
+decreases-loop-k l = most_outputs - l.k
