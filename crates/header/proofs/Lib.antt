@@ -1,4 +1,3 @@
 pub mod TagLaws
 pub mod HeaderLaws
 pub mod TestLaws
-pub mod ReaderWalks

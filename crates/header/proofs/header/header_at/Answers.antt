@@ -12,10 +12,10 @@ use Rattle.header.specs.Header.{is_due, raw_of}
 use Rattle.header.proofs.HeaderLaws.{past_end, not_due, too_many, not_in_table, a_field}
 use borrow.Author.Rules.{rules}
 use Rattle.header.proofs.header.header_at.Goals as goal
-use Rattle.header.proofs.header.header_at.Goals.{Else-not-is_due, In-Field-2, Joined-is_constraint}
+use Rattle.header.proofs.header.header_at.Goals.{Else-not-is_due, In-Field, Joined-is_constraint, then-is_constraint+else-m-ge-MOST_CONSTRAINTS, else-is_constraint}
 
 -- The field is there.
-there : (c : In-Field-2) → let a = c.args in
+there : (c : In-Field) → let a = c.args in
     raw_of (drop a.at a.s.now) ≡ Whole c.in-Field.tag c.in-Field.len
 there c = sym c.field_at-field.ensures ∙ c.in-Field.is
 
@@ -28,18 +28,21 @@ few : (c : Joined-is_constraint) → let f = c in
     (is_constraint f.in-Field.tag && leb most_constraints f.args.m) ≡ false
 few c =
     let told = sym c.is_constraint.ensures in
-    ⊎_elim (λ w. simp (told ∙ w.0.taken, lt-leb _ _ w.1.left)) (λ w. simp (told ∙ w.left)) c.if-is_constraint.branch
+    elim c.if-is_constraint.branch [
+      then-is_constraint+else-m-ge-MOST_CONSTRAINTS w ↦ simp (told ∙ w.if-is_constraint.true, lt-leb _ _ w.if-m-ge-MOST_CONSTRAINTS.false)
+    | else-is_constraint w ↦ simp (told ∙ w.if-is_constraint.false)
+    ]
 
 pub returns-then-not-is_due : goal.returns-then-not-is_due
 returns-then-not-is_due c =
-    let f = (goal.at.returns-then-not-is_due c).In-Field-2 in
+    let f = c in
     let a = f.args in
-    sym (not_due (drop a.at a.s.now) a.due a.m _ _ (there f) (sym c.is_due.ensures ∙ c.if-not-is_due.true))
+    sym (not_due (drop a.at a.s.now) a.due a.m _ _ (sym c.field_at-field.ensures ∙ c.in-Field.is) (sym c.is_due.ensures ∙ c.if-not-is_due.true))
 
 pub returns-then-m-ge-MOST_CONSTRAINTS : goal.returns-then-m-ge-MOST_CONSTRAINTS
 returns-then-m-ge-MOST_CONSTRAINTS c =
     let e = (goal.at.returns-then-m-ge-MOST_CONSTRAINTS c).Else-not-is_due in
-    let f = (goal.at.returns-then-m-ge-MOST_CONSTRAINTS c).In-Field-2 in
+    let f = (goal.at.returns-then-m-ge-MOST_CONSTRAINTS c).In-Field in
     let a = f.args in
     sym (too_many (drop a.at a.s.now) a.due a.m _ _ (there f) (due-here e) (simp (sym c.is_constraint.ensures ∙ c.if-is_constraint.true, le-leb _ _ c.if-m-ge-MOST_CONSTRAINTS.true)))
 
@@ -47,7 +50,7 @@ pub returns-then-not-fits_table : goal.returns-then-not-fits_table
 returns-then-not-fits_table c =
     let j = (goal.at.returns-then-not-fits_table c).Joined-is_constraint in
     let e = (goal.at.returns-then-not-fits_table c).Else-not-is_due in
-    let f = (goal.at.returns-then-not-fits_table c).In-Field-2 in
+    let f = (goal.at.returns-then-not-fits_table c).In-Field in
     let a = f.args in
     sym (not_in_table (drop a.at a.s.now) a.due a.m _ _ (there f) (due-here e) (few j) (sym c.fits_table.ensures ∙ c.if-not-fits_table.true))
 
@@ -60,6 +63,6 @@ pub returns-else-not-fits_table : goal.returns-else-not-fits_table
 returns-else-not-fits_table c =
     let j = (goal.at.returns-else-not-fits_table c).Joined-is_constraint in
     let e = (goal.at.returns-else-not-fits_table c).Else-not-is_due in
-    let f = (goal.at.returns-else-not-fits_table c).In-Field-2 in
+    let f = (goal.at.returns-else-not-fits_table c).In-Field in
     let a = f.args in
     sym (a_field (drop a.at a.s.now) a.due a.m _ _ (there f) (due-here e) (few j) (sym c.fits_table.ensures ∙ c.if-not-fits_table.false))
