@@ -45,7 +45,7 @@ sensor-test c =
     test ∙ ap (λ (x : ℕ). ltb a.sensor (2 ^ s.r) && eqb (bit_and a.sensor x) 0) past
 
 sensor-ok : (c : Else-not-is_sensor_word) → let a = c.args in sensor_ok a.state.set a.sensor ≡ true
-sensor-ok c = sym (sensor-test c) ∙ not-false c.is_sensor_word.result c.if-not-is_sensor_word.false-raw
+sensor-ok c = sym (sensor-test c.before) ∙ not-false c.is_sensor_word.result c.if-not-is_sensor_word.false-raw
 
 request-ok : (c : Else-not-fits16) → let a = c.args in request_ok a.state.set a.request ≡ true
 unfolding request_ok
@@ -67,7 +67,7 @@ walked c x e =
     read ∙ ap (λ (y : ℕ). read_word a.state.set a.state.past_output y a.sensor) before in
     let ends : c.walk_from-walked.result ≡ walk a.state.set p.read_points-read.result.word a.request = c.walk_from-walked.ensures in
     ap (sending a.state a.sensor) (sym e ∙ ends ∙ ap (λ (w : ℕ). walk a.state.set w a.request) all)
-    ∙ sym (scan_walks a.state a.sensor a.request (state_ok_law e1) (sensor-ok e2) (request-ok e3))
+    ∙ sym (scan_walks a.state a.sensor a.request (state_ok_law c.before.before.before.before.before.before.before.before.before) (sensor-ok c.before.before.before.before) (request-ok c.before.before))
 
 pub returns-then-not-is_state_ok : goal.returns-then-not-is_state_ok
 returns-then-not-is_state_ok c =
@@ -79,36 +79,36 @@ returns-then-not-is_state_ok c =
 pub read_points-read-requires : goal.read_points-read-requires
 read_points-read-requires c =
     let e1 = c in
-    (counts e1.args.state.set (set-formed e1)).r_le
+    (counts e1.args.state.set (set-formed (goal.at.read_points-read-requires c).Else-not-is_state_ok)).r_le
 
 pub returns-then-not-is_sensor_word : goal.returns-then-not-is_sensor_word
 returns-then-not-is_sensor_word c =
-    let b = (goal.at.returns-then-not-is_sensor_word c).After-is_sensor_word in
+    let b = c in
     let e1 = b in
     let a = e1.args in
     refuses c.refuse-then-not-is_sensor_word.result a.state BadSensor c.refuse-then-not-is_sensor_word.ensures
-    ∙ sym (scan_bad_sensor a.state a.sensor a.request (state_ok_law e1)
-    (sym (sensor-test b) ∙ not-true b.is_sensor_word.result c.if-not-is_sensor_word.true-raw))
+    ∙ sym (scan_bad_sensor a.state a.sensor a.request (state_ok_law (goal.at.returns-then-not-is_sensor_word c).Else-not-is_state_ok)
+    (sym (sensor-test (goal.at.returns-then-not-is_sensor_word c).After-is_sensor_word) ∙ not-true b.is_sensor_word.result c.if-not-is_sensor_word.true-raw))
 
 pub returns-then-not-fits16 : goal.returns-then-not-fits16
 unfolding request_ok
 returns-then-not-fits16 c =
     let f = c in
-    let e2 = (goal.at.returns-then-not-fits16 c).Else-not-is_sensor_word in
+    let e2 = f in
     let e1 = e2 in
     let a = e1.args in
     refuses c.refuse-then-not-fits16.result a.state BadRequest c.refuse-then-not-fits16.ensures
-    ∙ sym (scan_bad_request a.state a.sensor a.request (state_ok_law e1) (sensor-ok e2)
+    ∙ sym (scan_bad_request a.state a.sensor a.request (state_ok_law (goal.at.returns-then-not-fits16 c).Else-not-is_state_ok) (sensor-ok (goal.at.returns-then-not-fits16 c).Else-not-is_sensor_word)
     (sym f.fits16.ensures ∙ not-true f.fits16.result c.if-not-fits16.true-raw))
 
 pub walk_from-walked-requires : goal.walk_from-walked-requires
-walk_from-walked-requires c = set-formed c
+walk_from-walked-requires c = set-formed (goal.at.walk_from-walked-requires c).Else-not-is_state_ok
 
 pub returns-in-Safe : goal.returns-in-Safe
 returns-in-Safe c = walked (goal.at.returns-in-Safe c).After-walk_from-walked _ c.in-Safe.is
 
 pub returns-in-Never : goal.returns-in-Never
 returns-in-Never c =
-    let w = (goal.at.returns-in-Never c).After-walk_from-walked in
+    let w = c in
     let a = w.args in
-    refuses c.refuse-in-Never.result a.state Unsafe c.refuse-in-Never.ensures ∙ walked w Never c.in-Never.is
+    refuses c.refuse-in-Never.result a.state Unsafe c.refuse-in-Never.ensures ∙ walked (goal.at.returns-in-Never c).After-walk_from-walked Never c.in-Never.is

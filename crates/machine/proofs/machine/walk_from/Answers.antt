@@ -30,26 +30,26 @@ module _ (b : After-build_by-t) where
   abbrev built : Table
   built = b.build_by-t.result
 
-  walk-told : (r : Walk) → r ≡ walk_in built looked.args.request → r ≡ walk looked.args.s looked.args.w looked.args.request
+  walk-told : (r : Walk) → r ≡ walk_in built b.args.request → r ≡ walk b.args.s b.args.w b.args.request
   walk-told r e =
-      let a = looked.args in
+      let a = b.args in
       let i = b in
       e
       ∙ ap (λ (x : Table). walk_in x a.request)
       (made_table a.s i.columns_of-by.result i.columns_of-by.ensures b.active_at-active.result built b.build_by-t.ensures
-      ∙ ap (table_of a.s) (made_active a.s looked.pre a.w i.columns_of-by.result i.columns_of-by.ensures b.active_at-active.result b.active_at-active.ensures))
-      ∙ table_walk a.s a.w looked.pre a.request
+      ∙ ap (table_of a.s) (made_active a.s b.requires a.w i.columns_of-by.result i.columns_of-by.ensures b.active_at-active.result b.active_at-active.ensures))
+      ∙ table_walk a.s a.w b.requires a.request
 
 pub returns-in-Forced : goal.returns-in-Forced
 returns-in-Forced c =
     let v = c in
     let f = v in
-    let b = (goal.at.returns-in-Forced c).After-build_by-t in
-    walk-told b c.walk_over.result
-    (by-forced (built b) b.args.request f.in-Forced.f0 f.in-Forced.f1 v.start_vector.result c.walk_over.result f.in-Forced.is
+    let b = f in
+    walk-told (goal.at.returns-in-Forced c).After-build_by-t c.walk_over.result
+    (by-forced (built (goal.at.returns-in-Forced c).After-build_by-t) b.args.request f.in-Forced.f0 f.in-Forced.f1 v.start_vector.result c.walk_over.result f.in-Forced.is
     v.start_vector.ensures c.walk_over.ensures)
 
 pub returns-in-Clash : goal.returns-in-Clash
 returns-in-Clash c =
-    let b = (goal.at.returns-in-Clash c).After-build_by-t in
-    walk-told b Never (by-holds (built b) b.args.request (Clash c.in-Clash.output) c.in-Clash.is)
+    let b = c in
+    walk-told (goal.at.returns-in-Clash c).After-build_by-t Never (by-holds (built (goal.at.returns-in-Clash c).After-build_by-t) b.args.request (Clash c.in-Clash.output) c.in-Clash.is)
