@@ -1,0 +1,6 @@
+-- `literal::literal::refused_literals` meets its contract. Assumes nothing.
+use borrow.Author.Rules.{rules}
+use Rattle.literal.proofs.literal.refused_literals.Goals as goal
+
+pub returns : goal.returns
+returns c = rw c.constraint_of-made.ensures

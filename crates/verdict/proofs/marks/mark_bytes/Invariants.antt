@@ -1,0 +1,26 @@
+-- `verdict::marks::mark_bytes` meets its contract. The invariant: the bytes passed have the safe vectors of theirs, and `any` tells whether there is one.
+-- Assumes nothing.
+use mathlib.Core.Path.{◌≡◌, refl, sym, ap, ◌∙◌}
+use mathlib.Core.Bool.{Bool, not}
+use mathlib.Core.List.{List, ◌++◌, append-nil}
+use Prim.Native.Nat.{ℕ, ◌≤◌, ◌-◌}
+use native.Mathlib.Omega.{arith}
+use lib.Dec.{eqb}
+use lib.ListN.{length, set, drop, length-set}
+use lib.Seq.{drop-length}
+use Rattle.words.specs.Loop.{some, listed}
+use Rattle.words.proofs.LoopLaws.{listed_none, listed_store}
+use Rattle.words.proofs.LoopTurns.{some_none, some_step}
+use Rattle.scan.specs.way.Eight.{safe_byte}
+use Rattle.scan.proofs.EightLaws.{safe_byte_le}
+use Rattle.verdict.specs.way.Marks.{has_mark}
+use borrow.Author.Rules.{rules}
+use Rattle.verdict.proofs.marks.mark_bytes.Given as goal
+
+abbrev pub invariant-loop-b : goal.invariant-loop-b
+invariant-loop-b l =
+    (l.b ≤ length l.initial.marks) × (length l.marks ≡ length l.initial.marks) × (l.any ≡ some l.b (has_mark (safe_byte l.held l.f0 l.f1 l.plain l.named l.low l.count)))
+    × (l.marks ≡ listed l.b (safe_byte l.held l.f0 l.f1 l.plain l.named l.low l.count) ++ drop l.b l.initial.marks)
+
+abbrev pub decreases-loop-b : goal.decreases-loop-b
+decreases-loop-b l = length l.initial.marks - l.b

@@ -1,0 +1,48 @@
+-- `verdict::marks::mark_safe` meets its contract. Assumes nothing.
+use mathlib.Core.Path.{◌≡◌, ap, ap₂, ◌∙◌}
+use Prim.Native.Nat.{ℕ}
+use native.Mathlib.Omega.{arith}
+use lib.ListN.{length}
+use lib.Bits.{bit_and}
+use Rattle.words.specs.Loop.{some, listed}
+use Rattle.scan.specs.Set.{most_outputs}
+use Rattle.scan.specs.way.Eight.{low_held, eight_of, safe_byte}
+use Rattle.verdict.specs.way.Marks.{first_vectors, has_mark}
+use Rattle.verdict.proofs.JudgeLaws.{scratch_eighth, scratch_mono}
+use Rattle.verdict.proofs.MarksLaws.{bytes_are, some_safe, held_le}
+use borrow.Author.Rules.{rules}
+use Rattle.verdict.proofs.marks.mark_safe.Goals as goal
+use Rattle.verdict.proofs.marks.mark_safe.Goals.{After-first_vectors}
+
+-- the arguments of a call; the entries for judging eight at once, and what is held of eight vectors: of those that there are
+module _ (v : After-first_vectors) where
+  abbrev held : ℕ
+  held = bit_and v.low_held.result v.first_vectors.result
+
+  eight-told : v.eight_of-e.result ≡ eight_of v.args.plain.now v.args.named.now v.args.count
+  eight-told = v.eight_of-e.ensures
+
+  held-told : held ≡ bit_and (low_held v.args.f0 v.args.f1) (first_vectors v.args.n)
+  held-told = ap₂ bit_and v.low_held.ensures v.first_vectors.ensures
+
+  abbrev byte : ℕ → ℕ
+  byte =
+      safe_byte held v.args.f0 v.args.f1 v.eight_of-e.result.plain v.eight_of-e.result.named
+      v.eight_of-e.result.low v.args.count
+
+pub mark_bytes-requires : goal.mark_bytes-requires
+mark_bytes-requires c =
+    let v = c in
+    let s = v in (
+      omega (arith, held-told (goal.at.mark_bytes-requires c).After-first_vectors, held_le s.args.f0 s.args.f1 s.args.n),
+      omega (arith, s.requires.1, scratch_mono s.args.n most_outputs s.requires.0, scratch_eighth most_outputs (omega arith)),
+    )
+
+pub returns : goal.returns
+returns c =
+    let m = c in
+    let v = m in
+    let s = v in
+    let any : m.mark_bytes.result ≡ some (length s.args.marks.now) (has_mark (byte (goal.at.returns c).After-first_vectors)) = m.mark_bytes.ensures.value in record { value = any ∙ ap (λ (k : ℕ). some k (has_mark (byte (goal.at.returns c).After-first_vectors))) s.requires.1
+          ∙ some_safe s.args.n s.args.plain.now s.args.named.now s.args.count _ (eight-told (goal.at.returns c).After-first_vectors) s.args.f0 s.args.f1 (held (goal.at.returns c).After-first_vectors) (held-told (goal.at.returns c).After-first_vectors); marks_after = m.mark_bytes.ensures.marks_after ∙ ap (λ (k : ℕ). listed k (byte (goal.at.returns c).After-first_vectors)) s.requires.1
+          ∙ bytes_are s.args.n s.args.plain.now s.args.named.now s.args.count _ (eight-told (goal.at.returns c).After-first_vectors) s.args.f0 s.args.f1 (held (goal.at.returns c).After-first_vectors) (held-told (goal.at.returns c).After-first_vectors) }
