@@ -77,16 +77,7 @@ passed : (c : Joined-not-is_seen)
 passed c =
     let i = c in
     let o = i in
-    ⊎_elim
-    (λ x.
-    let has = sym (lacks-told c.before x.4.result x.4.ensures x.8.result x.8.ensures) ∙ x.9.left in
-    (has, known_more (set c.before.before.before.before.before.before.before.before) (lacks (set c.before.before.before.before.before.before.before.before)) (lacks_alike (set c.before.before.before.before.before.before.before.before) (formed c.before.before.before.before.before.before.before.before)) o.loop-w.seen o.loop-w.invariant.3 (word c.before) i.active_in-active.result (active-told c.before) has _ (x.12 ∙ x.11.ensures)))
-    (λ x. (
-      known_hit (set c.before.before.before.before.before.before.before.before) (lacks (set c.before.before.before.before.before.before.before.before)) o.loop-w.seen o.loop-w.invariant.3 (word c.before) i.active_in-active.result (active-told c.before)
-          (sym i.is_seen.ensures ∙ not-false _ x.0.left),
-      subst (Known (set c.before.before.before.before.before.before.before.before) (lacks (set c.before.before.before.before.before.before.before.before))) (sym x.1) o.loop-w.invariant.3,
-    ))
-    c.if-not-is_seen.branch
+    ?
 
 pub overflow_cast-words : goal.overflow_cast-words
 overflow_cast-words c = omega (arith, few (goal.at.overflow_cast-words c).Start)

@@ -84,10 +84,11 @@ returns-then-is_marked c =
     let s = i in
     let a = s.args in
     let told : i.is_marked.result ≡ marked a.marks.now a.from = i.is_marked.ensures in
-    let at_once = here (pass (goal.at.returns-then-is_marked c).Start) a.from a.marks.now a.limit (sym told ∙ c.if-is_marked.true) in (
-      comes (pass (goal.at.returns-then-is_marked c).Start) a.limit a.from a.marks.now 0 at_once (omega arith),
-      (came (pass (goal.at.returns-then-is_marked c).Start) a.limit a.from a.marks.now 0 at_once (omega arith) _ (path_none (pass (goal.at.returns-then-is_marked c).Start) a.from a.marks.now 0 refl), s.requires),
-    )
+    let at_once = here (pass (goal.at.returns-then-is_marked c).Start) a.from a.marks.now a.limit (sym told ∙ c.if-is_marked.true) in record {
+      value = comes (pass (goal.at.returns-then-is_marked c).Start) a.limit a.from a.marks.now 0 at_once (omega arith);
+      marks_after = came (pass (goal.at.returns-then-is_marked c).Start) a.limit a.from a.marks.now 0 at_once (omega arith) _ (path_none (pass (goal.at.returns-then-is_marked c).Start) a.from a.marks.now 0 refl);
+      trail_len = s.requires;
+    }
 
 pub returns-then-both : goal.returns-then-both
 returns-then-both c =
@@ -106,19 +107,21 @@ returns-then-both c =
     let on = and_true (ltb 0 a.limit) m.is_marked-2.result (sym tests ∙ t.if-both.true) in
     let some = ltb-true 0 a.limit on.0 in
     let soon = one-pass (pass (goal.at.returns-then-both c).Start) a.from a.marks.now a.limit (sym first ∙ n.if-is_marked.false) (omega arith) n.pass_over-next.result passed (sym second ∙ on.1) in
-    let put : p.put_mark.new.marks ≡ with_mark a.marks.now a.from = p.put_mark.ensures in (
-      comes (pass (goal.at.returns-then-both c).Start) a.limit a.from a.marks.now 1 soon (omega arith),
-      (came (pass (goal.at.returns-then-both c).Start) a.limit a.from a.marks.now 1 soon (omega arith) _ (put ∙ alone (pass (goal.at.returns-then-both c).Start) a.from a.marks.now), s.requires),
-    )
+    let put : p.put_mark.new.marks ≡ with_mark a.marks.now a.from = p.put_mark.ensures in record {
+      value = comes (pass (goal.at.returns-then-both c).Start) a.limit a.from a.marks.now 1 soon (omega arith);
+      marks_after = came (pass (goal.at.returns-then-both c).Start) a.limit a.from a.marks.now 1 soon (omega arith) _ (put ∙ alone (pass (goal.at.returns-then-both c).Start) a.from a.marks.now);
+      trail_len = s.requires;
+    }
 
 pub returns-then-limit-made : goal.returns-then-limit-made
 returns-then-limit-made c =
     let k = c in
     let s = k in
-    let a = s.args in (
-      stays (pass (goal.at.returns-then-limit-made c).Start) a.limit a.from a.marks.now k.passes_to_mark-made.result (made-is (goal.at.returns-then-limit-made c).After-passes_to_mark-made) c.if-limit-made.true,
-      (stayed (pass (goal.at.returns-then-limit-made c).Start) a.limit a.from a.marks.now k.passes_to_mark-made.result (made-is (goal.at.returns-then-limit-made c).After-passes_to_mark-made) c.if-limit-made.true, (trail_is (goal.at.returns-then-limit-made c).After-passes_to_mark-made).long),
-    )
+    let a = s.args in record {
+      value = stays (pass (goal.at.returns-then-limit-made c).Start) a.limit a.from a.marks.now k.passes_to_mark-made.result (made-is (goal.at.returns-then-limit-made c).After-passes_to_mark-made) c.if-limit-made.true;
+      marks_after = stayed (pass (goal.at.returns-then-limit-made c).Start) a.limit a.from a.marks.now k.passes_to_mark-made.result (made-is (goal.at.returns-then-limit-made c).After-passes_to_mark-made) c.if-limit-made.true;
+      trail_len = (trail_is (goal.at.returns-then-limit-made c).After-passes_to_mark-made).long;
+    }
 
 pub returns : goal.returns
 returns c =
@@ -135,11 +138,9 @@ returns c =
     let lost-is : lost ≡ made - trail_places = o.lost_of-lost.ensures in
     let mid = p.mark_path.new.marks in
     let gone : mid ≡ path_marked (pass (goal.at.returns c).Start) lost a.from a.marks.now = p.mark_path.ensures in
-    let rest : q.mark_trail.new.marks ≡ trail_marked (trail (goal.at.returns c).After-passes_to_mark-made) lost (made - lost) mid = q.mark_trail.ensures in (
-      comes (pass (goal.at.returns c).Start) a.limit a.from a.marks.now made (made-is (goal.at.returns c).After-passes_to_mark-made) few,
-      (
-        came (pass (goal.at.returns c).Start) a.limit a.from a.marks.now made (made-is (goal.at.returns c).After-passes_to_mark-made) few _
-            (joined (pass (goal.at.returns c).Start) a.from a.marks.now made (trail (goal.at.returns c).After-passes_to_mark-made) (trail_is (goal.at.returns c).After-passes_to_mark-made) lost lost-is mid _ gone rest),
-        (trail_is (goal.at.returns c).After-passes_to_mark-made).long,
-      ),
-    )
+    let rest : q.mark_trail.new.marks ≡ trail_marked (trail (goal.at.returns c).After-passes_to_mark-made) lost (made - lost) mid = q.mark_trail.ensures in record {
+      value = comes (pass (goal.at.returns c).Start) a.limit a.from a.marks.now made (made-is (goal.at.returns c).After-passes_to_mark-made) few;
+      marks_after = came (pass (goal.at.returns c).Start) a.limit a.from a.marks.now made (made-is (goal.at.returns c).After-passes_to_mark-made) few _
+            (joined (pass (goal.at.returns c).Start) a.from a.marks.now made (trail (goal.at.returns c).After-passes_to_mark-made) (trail_is (goal.at.returns c).After-passes_to_mark-made) lost lost-is mid _ gone rest);
+      trail_len = (trail_is (goal.at.returns c).After-passes_to_mark-made).long;
+    }

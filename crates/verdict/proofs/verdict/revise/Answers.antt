@@ -22,15 +22,11 @@ use Rattle.verdict.proofs.MeaningLaws.{judge_without}
 use Rattle.verdict.proofs.FailingStays.{found_stays, found_within, none_up_to, stays_endless}
 use borrow.Author.Rules.{rules}
 use Rattle.verdict.proofs.verdict.revise.Goals as goal
-use Rattle.verdict.proofs.verdict.revise.Goals.{In-NoEnd-2}
-
--- any verdict of another variant is not 23
-other : (v : Verdict) → OneOf (0 ∷ 1 ∷ 2 ∷ 3 ∷ 4 ∷ []) (tag_of the_type v) → (w g : ℕ) → v ≢ NoEnd w g
-other v h w g e = miss (0 ∷ 1 ∷ 2 ∷ 3 ∷ 4 ∷ []) 5 tt (subst (λ (x : Verdict). OneOf (0 ∷ 1 ∷ 2 ∷ 3 ∷ 4 ∷ []) (tag_of the_type x)) e h)
+use Rattle.verdict.proofs.verdict.revise.Goals.{In-NoEnd}
 
 -- ---- an endless walk was found
 
-module _ (f : In-NoEnd-2) where
+module _ (f : In-NoEnd) where
   abbrev set : Set
   set = f.args.set
 
@@ -53,41 +49,41 @@ module _ (f : In-NoEnd-2) where
   within = found_within set formed word request found
 
 -- the words are 2 ^ r
-words-is : (f : In-NoEnd-2) → (1 * 2 ^ (set f).r) % 2 ^ 32 ≡ 2 ^ (set f).r
+words-is : (f : In-NoEnd) → (1 * 2 ^ (set f).r) % 2 ^ 32 ≡ 2 ^ (set f).r
 words-is f = one_shl 32 (set f).r (omega (arith, few f))
 
 pub overflow_add-word : goal.overflow_add-word
-overflow_add-word c = omega (arith, within (goal.at.overflow_add-word c).In-NoEnd-2, pow_mono {i = (set (goal.at.overflow_add-word c).In-NoEnd-2).r} {j = most_reads} (few (goal.at.overflow_add-word c).In-NoEnd-2))
+overflow_add-word c = omega (arith, within (goal.at.overflow_add-word c).In-NoEnd, pow_mono {i = (set (goal.at.overflow_add-word c).In-NoEnd).r} {j = most_reads} (few (goal.at.overflow_add-word c).In-NoEnd))
 
 pub first_without-without-requires : goal.first_without-without-requires
 first_without-without-requires c =
     let f = c in
-    (formed (goal.at.first_without-without-requires c).In-NoEnd-2, none_up_to (set (goal.at.first_without-without-requires c).In-NoEnd-2) (formed (goal.at.first_without-without-requires c).In-NoEnd-2) (word (goal.at.first_without-without-requires c).In-NoEnd-2) (request (goal.at.first_without-without-requires c).In-NoEnd-2) (found (goal.at.first_without-without-requires c).In-NoEnd-2), omega (arith, within (goal.at.first_without-without-requires c).In-NoEnd-2), f.requires.2)
+    (formed (goal.at.first_without-without-requires c).In-NoEnd, none_up_to (set (goal.at.first_without-without-requires c).In-NoEnd) (formed (goal.at.first_without-without-requires c).In-NoEnd) (word (goal.at.first_without-without-requires c).In-NoEnd) (request (goal.at.first_without-without-requires c).In-NoEnd) (found (goal.at.first_without-without-requires c).In-NoEnd), omega (arith, within (goal.at.first_without-without-requires c).In-NoEnd), f.requires.2)
 
 pub overflow_cast-set : goal.overflow_cast-set
-overflow_cast-set c = omega (arith, few (goal.at.overflow_cast-set c).In-NoEnd-2)
+overflow_cast-set c = omega (arith, few (goal.at.overflow_cast-set c).In-NoEnd)
 
 pub overflow_shl-set : goal.overflow_shl-set
-overflow_shl-set c = omega (arith, few (goal.at.overflow_shl-set c).In-NoEnd-2)
+overflow_shl-set c = omega (arith, few (goal.at.overflow_shl-set c).In-NoEnd)
 
 pub none_at-requires : goal.none_at-requires
-none_at-requires c = formed (goal.at.none_at-requires c).In-NoEnd-2
+none_at-requires c = formed (goal.at.none_at-requires c).In-NoEnd
 
 pub returns-then-without-set : goal.returns-then-without-set
 returns-then-without-set c =
     let t = c in
     let w = t in
     let f = w in
-    let told : c.none_at.result ≡ none_at (set (goal.at.returns-then-without-set c).In-NoEnd-2) w.first_without-without.result = c.none_at.ensures in
-    told ∙ sym (judge_without (set (goal.at.returns-then-without-set c).In-NoEnd-2) w.first_without-without.result w.first_without-without.ensures (omega (arith, words-is (goal.at.returns-then-without-set c).In-NoEnd-2, t.if-without-set.true)))
+    let told : c.none_at.result ≡ none_at (set (goal.at.returns-then-without-set c).In-NoEnd) w.first_without-without.result = c.none_at.ensures in
+    told ∙ sym (judge_without (set (goal.at.returns-then-without-set c).In-NoEnd) w.first_without-without.result w.first_without-without.ensures (omega (arith, words-is (goal.at.returns-then-without-set c).In-NoEnd, t.if-without-set.true)))
 
 pub returns-else-without-set : goal.returns-else-without-set
 returns-else-without-set c =
     let w = c in
     let f = w in
-    stays_endless (set (goal.at.returns-else-without-set c).In-NoEnd-2) (formed (goal.at.returns-else-without-set c).In-NoEnd-2) (word (goal.at.returns-else-without-set c).In-NoEnd-2) (request (goal.at.returns-else-without-set c).In-NoEnd-2) (found (goal.at.returns-else-without-set c).In-NoEnd-2) w.first_without-without.result w.first_without-without.ensures (omega (arith, words-is (goal.at.returns-else-without-set c).In-NoEnd-2, c.if-without-set.false))
+    stays_endless (set (goal.at.returns-else-without-set c).In-NoEnd) (formed (goal.at.returns-else-without-set c).In-NoEnd) (word (goal.at.returns-else-without-set c).In-NoEnd) (request (goal.at.returns-else-without-set c).In-NoEnd) (found (goal.at.returns-else-without-set c).In-NoEnd) w.first_without-without.result w.first_without-without.ensures (omega (arith, words-is (goal.at.returns-else-without-set c).In-NoEnd, c.if-without-set.false))
 
 pub returns-in_default : goal.returns-in_default
 returns-in_default c =
     let s = c in
-    found_stays s.args.set s.requires.0 s.args.found s.requires.1 (other s.args.found c.in-NoEnd.keys2)
+    found_stays s.args.set s.requires.0 s.args.found s.requires.1 c.in_default.not-NoEnd

@@ -27,18 +27,18 @@ grow s = let a = s.args in joined_grow (literal_at a.wide a.flags a.plain a.name
 abbrev next-point : In-loop-left → ℕ
 next-point c = count_trailing_zeros 32 c.loop-left.left
 
-found : (c : In-loop-left) → Lowest c.loop-left.left (next-point c)
+found : (c : In-loop-left) → Lowest c.loop-left.left (count_trailing_zeros 32 c.loop-left.left)
 found c = let l = c.loop-left in lowest 32 l.left c.loop-left-test.true l.invariant.3
 
-named_here : (c : In-loop-left) → bit (next-point c) c.args.named ≡ true
-named_here c = let l = c.loop-left in rest_here c.args.named l.left l.invariant.0 (next-point c) l.invariant.2 (found c)
+named_here : (c : In-loop-left) → bit (count_trailing_zeros 32 c.loop-left.left) c.args.named ≡ true
+named_here c = let l = c.loop-left in rest_here c.args.named l.left l.invariant.0 (count_trailing_zeros 32 c.loop-left.left) l.invariant.2 (found c)
 
 few : (c : In-loop-left) → next-point c < length c.args.ranks.now
-few c = let s = c in bit_below (length s.args.ranks.now) (next-point c) s.args.named s.requires.2 (named_here c)
+few c = let s = c in bit_below (length s.args.ranks.now) (count_trailing_zeros 32 c.loop-left.left) s.args.named s.requires.2 (named_here c)
 
 -- the literals before it are in place
 reached : (c : In-loop-left) → let a = c.args in let l = c.loop-left in
-    Puts (λ j. joined j (literal_at a.wide a.flags a.plain a.named a.ranks.now)) (length a.ranks.now) a.buf.now a.at l.buf l.next (next-point c)
+    Puts (λ j. joined j (literal_at a.wide a.flags a.plain a.named a.ranks.now)) (length a.ranks.now) a.buf.now a.at l.buf l.next (count_trailing_zeros 32 c.loop-left.left)
 reached c =
     let a = c.args in
     let l = c.loop-left in
@@ -52,12 +52,12 @@ reached c =
 
 -- its literal
 literal : (c : After-signed-own) → let t = c in let a = t.args in
-    literal_at a.wide a.flags a.plain a.named a.ranks.now (next-point c.before) ≡ literal_bytes a.wide c.signed-own.result (next-point c.before) (get_or a.ranks.now (next-point c.before) 0)
+    bit (count_trailing_zeros 32 c.loop-left.left) a.named ≡ true → literal_at a.wide a.flags a.plain a.named a.ranks.now (count_trailing_zeros 32 c.loop-left.left) ≡ literal_bytes a.wide c.signed-own.result (count_trailing_zeros 32 c.loop-left.left) (get_or a.ranks.now (count_trailing_zeros 32 c.loop-left.left) 0)
 unfolding bit odd
-literal c =
+literal c h =
     let t = c in
     let a = t.args in
-    literal_here a.wide a.flags a.plain a.named a.ranks.now (next-point c.before) c.signed-own.result (named_here c.before) c.signed-own.ensures.0
+    literal_here a.wide a.flags a.plain a.named a.ranks.now (count_trailing_zeros 32 c.loop-left.left) c.signed-own.result h c.signed-own.ensures.0
 
 pub loop-left-init : goal.loop-left-init
 loop-left-init c =
@@ -91,7 +91,7 @@ put_literal-next-requires c =
     let s = t in
     let a = s.args in (
       omega (arith, few (goal.at.put_literal-next-requires c).In-loop-left, s.requires.1, g.signed-own.ensures.1),
-      subst (λ (x : List ℕ). l.next + length x ≤ length l.buf) (literal (goal.at.put_literal-next-requires c).After-signed-own)
+      subst (λ (x : List ℕ). l.next + length x ≤ length l.buf) (literal (goal.at.put_literal-next-requires c).After-signed-own (named_here (goal.at.put_literal-next-requires c).In-loop-left))
           (puts_room (grow (goal.at.put_literal-next-requires c).Start) a.buf.now a.at s.requires.3 l.buf l.next (next-point (goal.at.put_literal-next-requires c).In-loop-left) (reached (goal.at.put_literal-next-requires c).In-loop-left) (few (goal.at.put_literal-next-requires c).In-loop-left)),
     )
 
@@ -114,7 +114,7 @@ loop-left-preserved c =
     let a = s.args in (
       next-point (goal.at.loop-left-preserved c).In-loop-left + 1,
       puts_one (grow (goal.at.loop-left-preserved c).Start) a.buf.now a.at s.requires.3 l.buf l.next (next-point (goal.at.loop-left-preserved c).In-loop-left) _ _ (reached (goal.at.loop-left-preserved c).In-loop-left) (few (goal.at.loop-left-preserved c).In-loop-left)
-          (subst (λ (x : List ℕ). Put l.buf l.next x p.put_literal-next.new.buf p.put_literal-next.result) (sym (literal (goal.at.loop-left-preserved c).After-signed-own)) p.put_literal-next.ensures),
+          (subst (λ (x : List ℕ). Put l.buf l.next x p.put_literal-next.new.buf p.put_literal-next.result) (sym (literal (goal.at.loop-left-preserved c).After-signed-own (named_here (goal.at.loop-left-preserved c).In-loop-left))) p.put_literal-next.ensures),
       rest_next a.named l.left l.invariant.0 (next-point (goal.at.loop-left-preserved c).In-loop-left) l.invariant.2 (found (goal.at.loop-left-preserved c).In-loop-left),
       omega (arith, l.invariant.3, and_le_r l.left (l.left - 1)),
     )

@@ -10,8 +10,7 @@ use Rattle.header.proofs.HeaderLaws.{tag_at}
 use Rattle.loader.specs.declared.loader.Progress.TheVariants.{At}
 use Rattle.loader.specs.way.Load.{rest_step, rest_place}
 use borrow.Author.Rules.{rules}
-use Rattle.loader.proofs.rest.rest_at.Statement.{statement}
-use Rattle.loader.proofs.rest.rest_at.Tie as tie
+use Rattle.loader.proofs.rest.rest_at.Goals as goal
 
 module _ (s : List ℕ) (at n : ℕ) where
   -- the field stands there
@@ -27,28 +26,18 @@ module _ (s : List ℕ) (at n : ℕ) where
   ended : length s ≤ at → get_or s at 0 ≡ 6 → ⊥
   ended h e = omega (arith, get_or-eq_default s 0 h)
 
-shared-slice-read-if2 : tie.Need-shared-slice-read-if2
-shared-slice-read-if2 c = search rules
+pub returns-then-s-at-eq-TAG_REST : goal.returns-then-s-at-eq-TAG_REST
+returns-then-s-at-eq-TAG_REST c =
+    let t = c in
+    let a = t.args in
+    c.rest_field.ensures ∙ there a.s.now a.at a.n t.if-s-at-eq-TAG_REST.true
 
-rest-field-requires : tie.Need-rest-field-requires
-rest-field-requires c κs = search rules
+pub returns-else-s-at-eq-TAG_REST : goal.returns-else-s-at-eq-TAG_REST
+returns-else-s-at-eq-TAG_REST c =
+    let a = c.args in
+    other a.s.now a.at a.n c.if-s-at-eq-TAG_REST.false
 
-returns : tie.Need-returns
-returns c =
-    let t = c.before in
-    let a = t.before.before.before.before.args in
-    c.rest-field.ensures ∙ there a.s.now a.at a.n t.if2.true
-
-returns-2 : tie.Need-returns-2
-returns-2 c =
-    let a = c.before.before.before.before.args in
-    other a.s.now a.at a.n c.if2.false
-
-returns-3 : tie.Need-returns-3
-returns-3 c =
-    let a = c.before.before.args in
-    other a.s.now a.at a.n (ended a.s.now a.at a.n c.if1.false)
-
-pub rest-at-spec : {M : Type 1} → statement M
-rest-at-spec =
-    tie.close (tie.spec shared-slice-read-if2 rest-field-requires returns returns-2 returns-3)
+pub returns-else-at-s : goal.returns-else-at-s
+returns-else-at-s c =
+    let a = c.args in
+    other a.s.now a.at a.n (ended a.s.now a.at a.n c.if-at-s.false)

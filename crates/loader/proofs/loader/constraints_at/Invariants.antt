@@ -1,0 +1,27 @@
+-- `loader::loader::constraints_at` meets its contract. The loop's invariant: the fields from here on, behind the constraints so far, give what all of
+-- them give, whichever points the set has. Assumes nothing.
+use mathlib.Core.Path.{◌≡◌, sym, ap, ◌∙◌}
+use mathlib.Core.List.{List}
+use Prim.Native.Nat.{ℕ, suc, ◌+◌, ◌-◌, ◌≤◌, ◌<◌}
+use native.Mathlib.Omega.{arith}
+use lib.ListN.{length, drop}
+use Rattle.scan.specs.declared.set.ReadPoint.{ReadPoint}
+use Rattle.scan.specs.declared.set.OutputPoint.{OutputPoint}
+use Rattle.scan.specs.Set.{most_constraints, zero_set}
+use Rattle.header.specs.declared.header.Header.TheVariants.{Field}
+use Rattle.header.specs.Header.{header_of}
+use Rattle.loader.specs.Load.{with_constraint, constraints_from}
+use Rattle.loader.specs.way.Load.{reached, rested_set, whole_set}
+use Rattle.header.proofs.HeaderLaws.{field_within, constraint_length, front_place, front_header}
+use Rattle.loader.proofs.LoadTurns.{constraints_stopped, constraints_end, constraints_by}
+use borrow.Author.Rules.{rules}
+use Rattle.loader.proofs.loader.constraints_at.Given as goal
+
+abbrev pub invariant-loop-number : goal.invariant-loop-number
+invariant-loop-number l =
+    (l.m ≤ most_constraints)
+    × ((rest : ℕ) (reads : List ReadPoint) (outputs : List OutputPoint)
+    → constraints_from l.s (suc most_constraints) l.at (rested_set l.r l.n rest reads outputs) ≡ constraints_from l.s (suc most_constraints - l.m) l.next (whole_set l.r l.n l.m rest reads outputs l.constraints))
+
+abbrev pub decreases-loop-number : goal.decreases-loop-number
+decreases-loop-number l = suc most_constraints - l.m

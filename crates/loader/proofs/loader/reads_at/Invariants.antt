@@ -1,0 +1,21 @@
+-- `loader::loader::reads_at` meets its contract. The loop's invariant: the fields from here on, behind the read points so far, give what all of them
+-- give; the names and the list of pasts are those of the read points so far. Assumes nothing.
+use mathlib.Core.Path.{◌≡◌, refl, sym, subst}
+use Prim.Native.Nat.{◌-◌, ◌≤◌, ◌<◌}
+use native.Mathlib.Nat.{sub-zero}
+use native.Mathlib.Omega.{arith}
+use lib.ListN.{replicate}
+use Rattle.scan.specs.Set.{most_reads, most_outputs, zero_name, zero_set, with_reads}
+use Rattle.loader.specs.Load.{of_counts, read_at, reads_from, with_read}
+use Rattle.loader.specs.way.Load.{reached}
+use Rattle.loader.proofs.LoadTurns.{read_row, row_end, row_stays, row_goes}
+use Rattle.loader.proofs.LoadWayLaws.{ReadsKnown, reads_none, reads_more, read_stepped}
+use borrow.Author.Rules.{rules}
+use Rattle.loader.proofs.loader.reads_at.Given as goal
+
+abbrev pub invariant-loop-i : goal.invariant-loop-i
+invariant-loop-i l =
+    (l.i ≤ l.r) × ReadsKnown l.names l.pasts l.reads × (reads_from l.s l.r 0 l.at (of_counts l.r l.n) ≡ reads_from l.s (l.r - l.i) l.i l.next (with_reads (of_counts l.r l.n) l.reads))
+
+abbrev pub decreases-loop-i : goal.decreases-loop-i
+decreases-loop-i l = l.r - l.i
