@@ -28,7 +28,7 @@ use Rattle.verdict.specs.way.Seen.{Known}
 use Rattle.verdict.proofs.SeenLaws.{known_hit, known_more, lacks_alike}
 use borrow.Author.Rules.{rules}
 use Rattle.verdict.proofs.missing.first_without.Goals as goal
-use Rattle.verdict.proofs.missing.first_without.Goals.{After-is_seen, At-loop-w, Joined-not-is_seen, Start}
+use Rattle.verdict.proofs.missing.first_without.Goals.{After-is_seen, At-loop-w, Joined-not-is_seen, Start, then-not-is_seen+else-not-is_any_safe, else-not-is_seen}
 
 few : (c : Start) → c.args.set.r ≤ most_reads
 few c = (counts c.args.set c.requires.0).r_le
@@ -75,9 +75,18 @@ module _ (i : After-is_seen) where
 passed : (c : Joined-not-is_seen)
     → (lacks (set c.before.before.before.before.before.before.before.before) (word c.before) ≡ false) × Known (set c.before.before.before.before.before.before.before.before) (lacks (set c.before.before.before.before.before.before.before.before)) c.if-not-is_seen.seen
 passed c =
-    let i = c in
-    let o = i in
-    ?
+    let s = c.args.set in
+    let a = c.active_in-active.result in
+    let told = active-told c.before in
+    elim c.if-not-is_seen.branch [
+      then-not-is_seen+else-not-is_any_safe w ↦
+        let has = sym (lacks-told c.before w.enter-e.result w.enter-e.ensures w.is_any_safe.result w.is_any_safe.ensures) ∙ ap not w.if-not-is_any_safe.false in
+        (has, known_more s (lacks s) (lacks_alike s c.requires.0) c.loop-w.seen c.loop-w.invariant.3 c.loop-w.w a told has _ (w.seen-is ∙ w.keep_seen.ensures))
+    | else-not-is_seen w ↦ (
+        known_hit s (lacks s) c.loop-w.seen c.loop-w.invariant.3 c.loop-w.w a told (sym c.is_seen.ensures ∙ w.if-not-is_seen.false),
+        subst (Known s (lacks s)) (sym w.seen-is) c.loop-w.invariant.3,
+      )
+    ]
 
 pub overflow_cast-words : goal.overflow_cast-words
 overflow_cast-words c = omega (arith, few (goal.at.overflow_cast-words c).Start)
@@ -110,7 +119,7 @@ returns-then-not-is_any_safe c =
     let i = b in
     let o = i in
     sym (first_is (2 ^ (set (goal.at.returns-then-not-is_any_safe c).At-loop-w).r) (word (goal.at.returns-then-not-is_any_safe c).After-is_seen) (lacks (set (goal.at.returns-then-not-is_any_safe c).At-loop-w)) (omega (arith, o.loop-w.invariant.0, i.loop-w-test.true))
-    (sym (lacks-told (goal.at.returns-then-not-is_any_safe c).After-is_seen b.enter-e.result b.enter-e.ensures k.is_any_safe.result k.is_any_safe.ensures) ∙ c.if-not-is_any_safe.true-raw)
+    (sym (lacks-told (goal.at.returns-then-not-is_any_safe c).After-is_seen b.enter-e.result b.enter-e.ensures k.is_any_safe.result k.is_any_safe.ensures) ∙ ap not c.if-not-is_any_safe.true)
     (before (goal.at.returns-then-not-is_any_safe c).At-loop-w))
 
 pub overflow_add-w : goal.overflow_add-w

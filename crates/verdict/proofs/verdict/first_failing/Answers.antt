@@ -38,7 +38,7 @@ use Rattle.verdict.proofs.WordMarks.{Ready, clash_none, marked_safe, settled_req
 use Rattle.verdict.proofs.SeenLaws.{known_hit, known_more, fails_alike}
 use borrow.Author.Rules.{rules}
 use Rattle.verdict.proofs.verdict.first_failing.Goals as goal
-use Rattle.verdict.proofs.verdict.first_failing.Goals.{After-active_in-active, After-keep_seen, After-mark_safe-any, After-settle, After-told_by, At-words, Left-words, Start}
+use Rattle.verdict.proofs.verdict.first_failing.Goals.{After-active_in-active, After-keep_seen, After-mark_safe-any, After-settle, After-told_by, At-words, Left-words, Start, else-words-test, then-words-test+else-is_seen+in_default, then-words-test+else-is_seen+in-Forced+then-not-any, then-words-test+else-is_seen+in-Forced+else-not-any+then-loop-g-test+then-not-settle}
 
 few : (c : Start) → (c.args.set.r ≤ most_reads) × (c.args.set.n ≤ most_outputs)
 few c = let n = counts c.args.set c.requires.0 in (n.r_le, n.n_le)
@@ -80,18 +80,18 @@ module _ (o : At-words) where
 
 -- the word whose active constraints were looked up
 module _ (a : After-active_in-active) where
-  active-told : a.active_in-active.result ≡ active_of (set a.before.before.before.before.before.before) a.words.w
+  active-told : a.active_in-active.result ≡ active_of a.args.set a.words.w
   active-told = mask-told a.before.before.before.before.before.before a.high_at-high.result a.high_at-high.ensures a.active_in-active.result a.active_in-active.ensures
 
-  within : a.words.w < 2 ^ (set a.before.before.before.before.before.before).r
+  within : a.words.w < 2 ^ a.args.set.r
   within = omega (arith, a.words.invariant.0, a.words-test.true)
 
   next_fits : a.words.w < 2 ^ most_reads
-  next_fits = omega (arith, within, pow_mono {i = (set a.before.before.before.before.before.before).r} {j = most_reads} (few a.before.before.before.before.before.before.before.before.before.before.before.before.before.before).0)
+  next_fits = omega (arith, within, pow_mono {i = a.args.set.r} {j = most_reads} (few a.before.before.before.before.before.before.before.before.before.before.before.before.before.before).0)
 
-  high-goes-on : high_at (by a.before.before.before.before.before.before).read_plain (by a.before.before.before.before.before.before).read_named (set a.before.before.before.before.before.before).m (a.words.w + 1) a.high_at-high.result
-      ≡ active_high (by a.before.before.before.before.before.before).read_plain (by a.before.before.before.before.before.before).read_named (set a.before.before.before.before.before.before).m (a.words.w + 1)
-  high-goes-on = high_next (by a.before.before.before.before.before.before).read_plain (by a.before.before.before.before.before.before).read_named (set a.before.before.before.before.before.before).m a.words.w a.high_at-high.result (high-told a.before.before.before.before.before.before a.high_at-high.result a.high_at-high.ensures)
+  high-goes-on : high_at a.columns_of-by.result.read_plain a.columns_of-by.result.read_named a.args.set.m (a.words.w + 1) a.high_at-high.result
+      ≡ active_high a.columns_of-by.result.read_plain a.columns_of-by.result.read_named a.args.set.m (a.words.w + 1)
+  high-goes-on = high_next a.columns_of-by.result.read_plain a.columns_of-by.result.read_named a.args.set.m a.words.w a.high_at-high.result (high-told a.before.before.before.before.before.before a.high_at-high.result a.high_at-high.ensures)
 
 -- ---- a word whose mask is kept is passed
 
@@ -99,84 +99,80 @@ module _ (a : After-active_in-active) where
 
 -- the word at which the safe vectors were marked, its table and its marks
 module _ (m : After-mark_safe-any) where
-  built-told : m.build_by-t.result ≡ table_of (set m.before.before.before.before.before.before.before.before.before.before.before.before.before.before.before.before.before.before) (active_of (set m.before.before.before.before.before.before.before.before.before.before.before.before.before.before.before.before.before.before) m.words.w)
-  built-told = table-told m.before.before.before.before.before.before.before.before.before.before.before.before.before.before.before.before.before.before m.active_in-active.result (active-told m.before.before.before.before.before.before.before.before.before.before.before.before) m.build_by-t.result m.build_by-t.ensures
+  built-told : m.build_by-t.result ≡ table_of m.args.set (active_of m.args.set m.words.w)
+  built-told = table-told m.before.before.before.before.before.before.before.before.before.before.before.before.before.before.before.before m.active_in-active.result (active-told m.before.before.before.before.before.before.before.before.before.before) m.build_by-t.result m.build_by-t.ensures
 
   abbrev marks : List ℕ
   marks = m.mark_safe-any.new.marks
 
   -- what marking them tells of the word, and that the marks are right
-  marked-told : (m.mark_safe-any.result ≡ has_vector (set m.before.before.before.before.before.before.before.before.before.before.before.before.before.before.before.before.before.before) m.words.w) × Ready (set m.before.before.before.before.before.before.before.before.before.before.before.before.before.before.before.before.before.before) m.words.w marks
+  marked-told : (m.mark_safe-any.result ≡ has_vector m.args.set m.words.w) × Ready m.args.set m.words.w marks
   marked-told =
-      marked_safe (set m.before.before.before.before.before.before.before.before.before.before.before.before.before.before.before.before.before.before) (formed m.before.before.before.before.before.before.before.before.before.before.before.before.before.before.before.before.before.before) m.words.w m.build_by-t.result built-told m.in-Forced.f0 m.in-Forced.f1 m.in-Forced.is
+      marked_safe m.args.set m.requires.0 m.words.w m.build_by-t.result built-told m.in-Forced.f0 m.in-Forced.f1 m.in-Forced.is
       m.mark_safe-any.result marks
       m.mark_safe-any.ensures.value m.mark_safe-any.ensures.marks_after
 
 -- the request at which a walk was settled
 module _ (q : After-settle) where
-  fits : q.loop-g.g < 2 ^ (set q.before.before.before.before.before.before.before.before.before.before.before.before.before.before.before.before.before.before.before.before.before.before.before.before.before.before.before.before.before.before).n
+  fits : q.loop-g.g < 2 ^ q.args.set.n
   fits = omega (arith, q.words.invariant.1, q.loop-g-test.true)
 
   -- what settling it tells of the request, and that the marks stay right
-  end-told : (q.settle.result ≡ not (endless (set q.before.before.before.before.before.before.before.before.before.before.before.before.before.before.before.before.before.before.before.before.before.before.before.before.before.before.before.before.before.before) q.words.w q.loop-g.g))
-      × Ready (set q.before.before.before.before.before.before.before.before.before.before.before.before.before.before.before.before.before.before.before.before.before.before.before.before.before.before.before.before.before.before) q.words.w q.settle.new.marks
+  end-told : (q.settle.result ≡ not (endless q.args.set q.words.w q.loop-g.g))
+      × Ready q.args.set q.words.w q.settle.new.marks
   end-told =
-      settled_request (set q.before.before.before.before.before.before.before.before.before.before.before.before.before.before.before.before.before.before.before.before.before.before.before.before.before.before.before.before.before.before) (formed q.before.before.before.before.before.before.before.before.before.before.before.before.before.before.before.before.before.before.before.before.before.before.before.before.before.before.before.before.before.before) q.words.w q.build_by-t.result (built-told q.before.before.before.before.before.before.before.before.before.before.before.before)
+      settled_request q.args.set q.requires.0 q.words.w q.build_by-t.result (built-told q.before.before.before.before.before.before.before.before.before.before.before.before)
       q.in-Forced.f0 q.in-Forced.f1 q.in-Forced.is
       q.loop-g.marks q.loop-g.invariant.1 q.loop-g.g fits q.start_vector-v.result q.start_vector-v.ensures
-      q.settle.result _ q.settle.ensures.value q.settle.ensures.marks_after.0
+      q.settle.result _ q.settle.ensures.value q.settle.ensures.marks_after
 
 -- the word whose requests were all settled is good
 module _ (k : After-keep_seen) where
-  passed : fails (set k.before.before.before.before.before.before.before.before.before.before.before.before.before.before.before.before.before.before.before.before.before.before.before.before.before) k.words.w ≡ false
+  passed : fails k.args.set k.words.w ≡ false
   passed =
-      let all : k.loop-g.g ≡ 2 ^ (set k.before.before.before.before.before.before.before.before.before.before.before.before.before.before.before.before.before.before.before.before.before.before.before.before.before).n = omega (arith, k.words.invariant.1, k.loop-g-test.false) in
-      passes (set k.before.before.before.before.before.before.before.before.before.before.before.before.before.before.before.before.before.before.before.before.before.before.before.before.before) k.words.w (sym (marked-told k.before.before.before.before.before.before.before).0 ∙ not-false _ k.if-not-any.false)
-      (some_false_at (2 ^ (set k.before.before.before.before.before.before.before.before.before.before.before.before.before.before.before.before.before.before.before.before.before.before.before.before.before).n) (endless (set k.before.before.before.before.before.before.before.before.before.before.before.before.before.before.before.before.before.before.before.before.before.before.before.before.before) k.words.w)
-      (ap (λ (j : ℕ). some j (endless (set k.before.before.before.before.before.before.before.before.before.before.before.before.before.before.before.before.before.before.before.before.before.before.before.before.before) k.words.w)) (sym all) ∙ k.loop-g.invariant.3))
+      let all : k.loop-g.g ≡ 2 ^ k.args.set.n = omega (arith, k.words.invariant.1, k.loop-g-test.false) in
+      passes k.args.set k.words.w (sym (marked-told k.before.before.before.before.before.before.before).0 ∙ k.if-not-any.false)
+      (some_false_at (2 ^ k.args.set.n) (endless k.args.set k.words.w)
+      (ap (λ (j : ℕ). some j (endless k.args.set k.words.w)) (sym all) ∙ k.loop-g.invariant.3))
 
 -- ---- where the loop was left
 
 -- the ways there: all words were passed; the word has no safe vector, since an output is forced both ways or since none was marked; or the request's walk is endless
 by_way {ℓ} : {C : Type ℓ} (c : Left-words)
     → let o = c in
-    (length c.words-test.marks ≡ scratch_bytes (set c.before).n → 2 ^ (set c.before).r ≤ o.words.w → C)
-    → (length c.words-test.marks ≡ scratch_bytes (set c.before).n → o.words.w < 2 ^ (set c.before).r → c.words-test.any ≡ false → has_vector (set c.before) o.words.w ≡ false → C)
-    → (length c.words-test.marks ≡ scratch_bytes (set c.before).n → o.words.w < 2 ^ (set c.before).r → c.words-test.any ≡ true → has_vector (set c.before) o.words.w ≡ true
-    → c.words-test.g < 2 ^ (set c.before).n → some c.words-test.g (endless (set c.before) o.words.w) ≡ false
-    → endless (set c.before) o.words.w c.words-test.g ≡ true → C)
+    (length c.words-test.marks ≡ scratch_bytes c.args.set.n → 2 ^ c.args.set.r ≤ o.words.w → C)
+    → (length c.words-test.marks ≡ scratch_bytes c.args.set.n → o.words.w < 2 ^ c.args.set.r → c.words-test.any ≡ false → has_vector c.args.set o.words.w ≡ false → C)
+    → (length c.words-test.marks ≡ scratch_bytes c.args.set.n → o.words.w < 2 ^ c.args.set.r → c.words-test.any ≡ true → has_vector c.args.set o.words.w ≡ true
+    → c.words-test.g < 2 ^ c.args.set.n → some c.words-test.g (endless c.args.set o.words.w) ≡ false
+    → endless c.args.set o.words.w c.words-test.g ≡ true → C)
     → C
 by_way c all none never =
     let o = c in
-    ⊎_elim
-    (λ x. all (ap length x.1 ∙ o.words.invariant.3) (omega (arith, o.words.invariant.0, x.0.left)))
-    (⊎_elim
-    (λ x.
-    let table = table-told c.before x.7.result (mask-told c.before x.4.result x.4.ensures x.7.result x.7.ensures) x.14.result x.14.ensures in
-    none (ap length x.17 ∙ o.words.invariant.3) (omega (arith, o.words.invariant.0, x.0.taken)) x.19
-    (clash_none (set c.before) (formed c.before) o.words.w x.14.result table x.16.given.0.0 x.16.given.1))
-    (⊎_elim
-    (λ x.
-    let table = table-told c.before x.7.result (mask-told c.before x.4.result x.4.ensures x.7.result x.7.ensures) x.14.result x.14.ensures in
-    let told = marked_safe (set c.before) (formed c.before) o.words.w x.14.result table x.16.given.0.0 x.16.given.0.1.0 x.16.given.1
-    x.22.result _ x.22.ensures.0 x.22.ensures.1 in
-    let off = not-true _ x.25.taken in
-    none (ap length x.26 ∙ told.1.long) (omega (arith, o.words.invariant.0, x.0.taken)) (x.28 ∙ off) (sym told.0 ∙ off))
-    (λ x.
-    let table = table-told c.before x.7.result (mask-told c.before x.4.result x.4.ensures x.7.result x.7.ensures) x.14.result x.14.ensures in
-    let told = marked_safe (set c.before) (formed c.before) o.words.w x.14.result table x.16.given.0.0 x.16.given.0.1.0 x.16.given.1
-    x.22.result _ x.22.ensures.0 x.22.ensures.1 in
-    let on = not-false _ x.25.left in
-    let below : x.26.g < 2 ^ (set c.before).n = omega (arith, o.words.invariant.1, x.27.taken) in
-    let ended = settled_request (set c.before) (formed c.before) o.words.w x.14.result table x.16.given.0.0 x.16.given.0.1.0 x.16.given.1
-    x.26.marks x.26.invariant.1 x.26.g below
-    x.28.result x.28.ensures x.35.result _ x.35.ensures.0 x.35.ensures.1.0 in
-    let off = not-true _ x.38.taken in
-    never (ap length x.39 ∙ ended.1.long) (omega (arith, o.words.invariant.0, x.0.taken)) (x.41 ∙ on) (sym told.0 ∙ on)
-    (subst (λ (k : ℕ). k < 2 ^ (set c.before).n) (sym x.43) below)
-    (subst (λ (k : ℕ). some k (endless (set c.before) o.words.w) ≡ false) (sym x.43) x.26.invariant.3)
-    (ap (endless (set c.before) o.words.w) x.43 ∙ not-false _ (sym ended.0 ∙ off)))))
-    c.words-test.branch
+    elim c.words-test.branch [
+      else-words-test w ↦ all (ap length w.marks-is ∙ o.words.invariant.3) (omega (arith, o.words.invariant.0, w.words-test.false))
+    | then-words-test+else-is_seen+in_default w ↦
+        let table = table-told c.before w.active_in-active.result (mask-told c.before w.high_at-high.result w.high_at-high.ensures w.active_in-active.result w.active_in-active.ensures) w.build_by-t.result w.build_by-t.ensures in
+        none (ap length w.marks-is ∙ o.words.invariant.3) (omega (arith, o.words.invariant.0, w.words-test.true)) w.any-is
+        (clash_none c.args.set c.requires.0 c.words.w w.build_by-t.result table w.in_default.field-0 w.in_default.is)
+    | then-words-test+else-is_seen+in-Forced+then-not-any w ↦
+        let table = table-told c.before w.active_in-active.result (mask-told c.before w.high_at-high.result w.high_at-high.ensures w.active_in-active.result w.active_in-active.ensures) w.build_by-t.result w.build_by-t.ensures in
+        let told = marked_safe c.args.set c.requires.0 c.words.w w.build_by-t.result table w.in-Forced.f0 w.in-Forced.f1 w.in-Forced.is w.mark_safe-any.result _ w.mark_safe-any.ensures.value w.mark_safe-any.ensures.marks_after in
+        let off = w.if-not-any.true in
+        none (ap length w.marks-is ∙ told.1.long) (omega (arith, o.words.invariant.0, w.words-test.true)) (w.any-is ∙ off) (sym told.0 ∙ off)
+    | then-words-test+else-is_seen+in-Forced+else-not-any+then-loop-g-test+then-not-settle w ↦
+        let table = table-told c.before w.active_in-active.result (mask-told c.before w.high_at-high.result w.high_at-high.ensures w.active_in-active.result w.active_in-active.ensures) w.build_by-t.result w.build_by-t.ensures in
+        let told = marked_safe c.args.set c.requires.0 c.words.w w.build_by-t.result table w.in-Forced.f0 w.in-Forced.f1 w.in-Forced.is w.mark_safe-any.result _ w.mark_safe-any.ensures.value w.mark_safe-any.ensures.marks_after in
+        let on = w.if-not-any.false in
+        let below : w.loop-g.g < 2 ^ c.args.set.n = omega (arith, o.words.invariant.1, w.loop-g-test.true) in
+        let ended = settled_request c.args.set c.requires.0 c.words.w w.build_by-t.result table w.in-Forced.f0 w.in-Forced.f1 w.in-Forced.is
+          w.loop-g.marks w.loop-g.invariant.1 w.loop-g.g below w.start_vector-v.result w.start_vector-v.ensures
+          w.settle.result _ w.settle.ensures.value w.settle.ensures.marks_after in
+        let off = w.if-not-settle.true in
+        never (ap length w.marks-is ∙ ended.1.long) (omega (arith, o.words.invariant.0, w.words-test.true)) (w.any-is ∙ on) (sym told.0 ∙ on)
+          (subst (λ (k : ℕ). k < 2 ^ c.args.set.n) (sym w.g-is) below)
+          (subst (λ (k : ℕ). some k (endless c.args.set c.words.w) ≡ false) (sym w.g-is) w.loop-g.invariant.3)
+          (ap (endless c.args.set c.words.w) w.g-is ∙ not-false _ (sym ended.0 ∙ off))
+    ]
 
 -- the answer by the way there
 module _ (s : Set) (words : ℕ) (any : Bool) (w g : ℕ) where
@@ -189,23 +185,23 @@ module _ (s : Set) (words : ℕ) (any : Bool) (w g : ℕ) where
   by_never : w < words → any ≡ true → verdict_by s words any w g ≡ NoEnd w g
   by_never h e = rw (lt-leb words w h, e)
 
-answer : (c : After-told_by) → c.told_by.result ≡ first_failing (set c.before.before)
+answer : (c : After-told_by) → c.told_by.result ≡ first_failing c.args.set
 answer c =
     let l = c in
     let o = l in
-    let words : ℕ = 2 ^ (set c.before.before).r in
-    let told : c.told_by.result ≡ verdict_by (set c.before.before) words l.words-test.any o.words.w l.words-test.g
-    = c.told_by.ensures ∙ ap (λ (k : ℕ). verdict_by (set c.before.before) k l.words-test.any o.words.w l.words-test.g) o.words.invariant.0 in
+    let words : ℕ = 2 ^ c.args.set.r in
+    let told : c.told_by.result ≡ verdict_by c.args.set words l.words-test.any o.words.w l.words-test.g
+    = c.told_by.ensures ∙ ap (λ (k : ℕ). verdict_by c.args.set k l.words-test.any o.words.w l.words-test.g) o.words.invariant.0 in
     told
-    ∙ by_way l
+    ∙ by_way l.before
     (λ n h.
-    let all : o.words.w ≡ 2 ^ (set c.before.before).r = omega (arith, o.words.invariant.0, o.words.invariant.2) in
-    by_all (set c.before.before) words l.words-test.any o.words.w l.words-test.g h
-    ∙ sym (failing_accepted (set c.before.before) (some_false_at (2 ^ (set c.before.before).r) (fails (set c.before.before)) (ap (λ (k : ℕ). some k (fails (set c.before.before))) (sym all) ∙ o.words.invariant.6))))
-    (λ n h a v. by-none (set c.before.before) words l.words-test.any o.words.w l.words-test.g h a ∙ sym (failing_no_vector (set c.before.before) o.words.w h (before c.before.before) v))
+    let all : o.words.w ≡ 2 ^ c.args.set.r = omega (arith, o.words.invariant.0, o.words.invariant.2) in
+    by_all c.args.set words l.words-test.any o.words.w l.words-test.g h
+    ∙ sym (failing_accepted c.args.set (some_false_at (2 ^ c.args.set.r) (fails c.args.set) (ap (λ (k : ℕ). some k (fails c.args.set)) (sym all) ∙ o.words.invariant.6))))
+    (λ n h a v. by-none c.args.set words l.words-test.any o.words.w l.words-test.g h a ∙ sym (failing_no_vector c.args.set o.words.w h (before c.before.before) v))
     (λ n h a v f b e.
-    by_never (set c.before.before) words l.words-test.any o.words.w l.words-test.g h a
-    ∙ sym (failing_no_end (set c.before.before) o.words.w l.words-test.g h (before c.before.before) v f (some_false_at l.words-test.g (endless (set c.before.before) o.words.w) b) e))
+    by_never c.args.set words l.words-test.any o.words.w l.words-test.g h a
+    ∙ sym (failing_no_end c.args.set o.words.w l.words-test.g h (before c.before.before) v f (some_false_at l.words-test.g (endless c.args.set o.words.w) b) e))
 
 pub overflow_cast-words : goal.overflow_cast-words
 overflow_cast-words c = omega (arith, few (goal.at.overflow_cast-words c).Start)
@@ -277,7 +273,7 @@ loop-g-preserved c =
     let l = q in (
       omega (arith, q.loop-g-test.true),
       (end-told (goal.at.loop-g-preserved c).After-settle).1,
-      q.settle.ensures.marks_after.1,
+      q.settle.ensures.trail_len,
       some_miss _ l.loop-g.g l.loop-g.invariant.3 (not-true _ (sym (end-told (goal.at.loop-g-preserved c).After-settle).0 ∙ c.if-not-settle.false)),
     )
 
@@ -307,7 +303,7 @@ told_by-requires c = formed (goal.at.told_by-requires c).At-words
 pub shape_of-marks : goal.shape_of-marks
 shape_of-marks c =
     let l = c in
-    by_way l (λ n h. n) (λ n h a v. n) (λ n h a v f b e. n) ∙ sym l.requires.1
+    by_way (goal.at.shape_of-marks c).Left-words (λ n h. n) (λ n h a v. n) (λ n h a v f b e. n) ∙ sym l.requires.1
 
 pub returns : goal.returns
 returns c = record { value = answer (goal.at.returns c).After-told_by; known = c.words.invariant.7 }

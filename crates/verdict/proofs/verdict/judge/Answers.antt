@@ -25,7 +25,7 @@ module _ (b : After-scratch_bytes-bytes) where
   set = b.args.set
 
   formed : well_formed set ≡ true
-  formed = sym b.well_formed.ensures ∙ not-false _ b.if-not-well_formed.false
+  formed = sym b.well_formed-2.ensures ∙ b.if-not-well_formed.false
 
   abbrev bytes : ℕ
   bytes = b.scratch_bytes-bytes.result

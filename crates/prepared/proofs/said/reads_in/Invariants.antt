@@ -1,0 +1,16 @@
+-- `prepared::said::reads_in` meets its contract. The invariant: the read points passed are made, with zeros behind them. Assumes nothing.
+use mathlib.Core.Path.{◌≡◌, ap, ◌∙◌}
+use Prim.Native.Nat.{min, ◌≤◌, ◌-◌}
+use native.Mathlib.Omega.{arith}
+use Rattle.scan.specs.Set.{most_reads, zero_read}
+use Rattle.prepared.specs.Filled.{filled}
+use Rattle.prepared.specs.Said.{read_in}
+use Rattle.prepared.proofs.FilledLaws.{filled_none, filled_more}
+use borrow.Author.Rules.{rules}
+use Rattle.prepared.proofs.said.reads_in.Given as goal
+
+abbrev pub invariant-loop-k : goal.invariant-loop-k
+invariant-loop-k l = (l.k ≤ l.end) × (l.end ≤ most_reads) × (l.reads ≡ filled most_reads zero_read (read_in l.b) l.k)
+
+abbrev pub decreases-loop-k : goal.decreases-loop-k
+decreases-loop-k l = l.end - l.k

@@ -1,0 +1,31 @@
+-- `text::place::put_bytes` meets its contract. The loop's invariant: the first k bytes are put. Assumes nothing.
+use borrow.Author.Rules.{rules}
+use Prim.Native.Nat.{◌-◌}
+use lib.ListN.{length, take}
+use lib.Seq.{take-length}
+use Rattle.text.proofs.PlaceLaws.{within_same, Goes, goes_none, goes_one, goes_all, goes_kept, bytes_grow}
+use Rattle.text.proofs.place.put_bytes.Goals as goal
+
+pub loop-k-init : goal.loop-k-init
+loop-k-init c = let a = c.args in goes_none (bytes_grow a.bytes.now) a.buf.now a.at
+
+pub loop-k-preserved : goal.loop-k-preserved
+loop-k-preserved c =
+    let p = c in
+    let i = p in
+    let l = i.loop-k in
+    let a = i.args in
+    goes_one (bytes_grow a.bytes.now) a.buf.now a.at l.buf l.place l.k _ _ l.invariant i.loop-k-test.true p.put_byte-place.ensures
+
+pub shape_of-buf : goal.shape_of-buf
+shape_of-buf c =
+    let l = c.loop-k in
+    let a = c.args in
+    goes_kept (bytes_grow a.bytes.now) a.buf.now a.at l.buf l.place l.k l.invariant
+
+pub returns : goal.returns
+returns c =
+    let l = c.loop-k in
+    let a = c.args in
+    within_same a.buf.now a.at _ a.bytes.now l.buf l.place (take-length a.bytes.now)
+    (goes_all (bytes_grow a.bytes.now) a.buf.now a.at l.buf l.place l.k l.invariant c.loop-k-test.false)

@@ -1,0 +1,28 @@
+-- `text::place::put_name_at` meets its contract: past the end of the list a name has no bytes. Assumes nothing.
+use borrow.Author.Rules.{rules}
+use mathlib.Core.Path.{◌≡◌, sym, ap, ◌∙◌}
+use mathlib.Core.List.{List, [], ◌∷◌}
+use Prim.Native.Nat.{ℕ}
+use native.Mathlib.Omega.{arith}
+use lib.ListN.{get_or, get_or-eq_default}
+use lib.Seq.{take_all}
+use Rattle.scan.specs.Names.{name_bytes, name_length}
+use Rattle.text.specs.Text.{spaced_words}
+use Rattle.text.proofs.PlaceLaws.{within_same}
+use Rattle.text.proofs.place.put_name_at.Goals as goal
+
+no_bytes : name_bytes [] ≡ []
+unfolding name_bytes
+no_bytes = take_all (name_length []) [] (omega arith)
+
+no_word : (w : List ℕ) → w ≡ [] → spaced_words (w ∷ []) ≡ 0x20 ∷ []
+unfolding spaced_words
+no_word w e = ap (λ (v : List ℕ). spaced_words (v ∷ [])) e
+
+pub returns : goal.returns
+returns c =
+    let p = c in
+    let e = p in
+    let a = e.args in
+    let none : name_bytes (get_or a.names.now a.k []) ≡ [] = ap name_bytes (get_or-eq_default a.names.now [] (omega (arith, e.if-k-names.false))) ∙ no_bytes in
+    within_same a.buf.now a.at (0x20 ∷ []) _ _ _ (sym (no_word (name_bytes (get_or a.names.now a.k [])) none)) p.put_byte.ensures
