@@ -15,7 +15,8 @@ good c = sym c.well_formed-2.ensures ∙ c.if-not-well_formed.false
 pub returns-then-not-well_formed : goal.returns-then-not-well_formed
 returns-then-not-well_formed c =
     let a = c.args in
-    bad_set a.set a.buf.now (sym c.well_formed-2.ensures ∙ c.if-not-well_formed.true)
+    let r = bad_set a.set a.buf.now (sym c.well_formed-2.ensures ∙ c.if-not-well_formed.true) in
+    record { value = r.0; buf_after = r.1 }
 
 pub text_length-needed-requires : goal.text_length-needed-requires
 text_length-needed-requires c = good (goal.at.text_length-needed-requires c).Else-not-well_formed
@@ -23,7 +24,8 @@ text_length-needed-requires c = good (goal.at.text_length-needed-requires c).Els
 pub returns-then-buf-needed : goal.returns-then-buf-needed
 returns-then-buf-needed c =
     let a = c.args in
-    too_short a.set a.buf.now (good (goal.at.returns-then-buf-needed c).Else-not-well_formed) c.text_length-needed.result c.text_length-needed.ensures c.if-buf-needed.true
+    let r = too_short a.set a.buf.now (good (goal.at.returns-then-buf-needed c).Else-not-well_formed) c.text_length-needed.result c.text_length-needed.ensures c.if-buf-needed.true in
+    record { value = r.0; buf_after = r.1 }
 
 pub put_lines-requires : goal.put_lines-requires
 put_lines-requires c = good (goal.at.put_lines-requires c).Else-not-well_formed
@@ -32,4 +34,5 @@ pub returns : goal.returns
 returns c =
     let e = c in
     let a = e.args in
-    put_whole a.set a.buf.now (good (goal.at.returns c).Else-not-well_formed) e.text_length-needed.result e.text_length-needed.ensures (omega (arith, e.if-buf-needed.false)) _ c.put_lines.ensures.0
+    let r = put_whole a.set a.buf.now (good (goal.at.returns c).Else-not-well_formed) e.text_length-needed.result e.text_length-needed.ensures (omega (arith, e.if-buf-needed.false)) _ c.put_lines.ensures.0 in
+    record { value = r.0; buf_after = r.1 }

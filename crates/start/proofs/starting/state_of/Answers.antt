@@ -10,8 +10,7 @@ use Rattle.verdict.specs.contracts.verdict.Verdict.{the_type}
 use Rattle.verdict.specs.declared.verdict.Verdict.TheVariants.{Accepted, BadSet, ShortScratch, NoVector, Clash, NoEnd}
 use Rattle.start.specs.Start.{start_state}
 use borrow.Author.Rules.{rules}
-use Rattle.start.proofs.starting.state_of.Statement.{statement}
-use Rattle.start.proofs.starting.state_of.Tie as tie
+use Rattle.start.proofs.starting.state_of.Goals as goal
 
 -- acceptance leads to a fresh state
 accepted : (s : Set) (v : Verdict) → v ≡ Accepted → fresh_state s ≡ start_state s v
@@ -31,29 +30,13 @@ rejected s (NoVector w) h = refl
 rejected s (Clash w k) h = refl
 rejected s (NoEnd w g) h = refl
 
-enum_told : tie.Need-enum-told
-enum_told c = search rules
+pub returns-in-Accepted : goal.returns-in-Accepted
+returns-in-Accepted c =
+    let a = c.args in
+    c.fresh.ensures ∙ accepted a.set a.verdict c.in-Accepted.is
 
-fresh-requires : tie.Need-fresh-requires
-fresh-requires c κs = search rules
-
-returns : tie.Need-returns
+pub returns : goal.returns
 returns c =
-    let a = c.before.before.before.args in
-    c.fresh.ensures ∙ accepted a.set a.verdict c.before.enum_told.given.1
-
-zero-set-requires : tie.Need-zero-set-requires
-zero-set-requires c κs = search rules
-
-fresh-requires-2 : tie.Need-fresh-requires-2
-fresh-requires-2 c κs = search rules
-
-returns-2 : tie.Need-returns-2
-returns-2 c =
-    let m = c.before.before in
-    let a = m.before.args in
-    c.fresh2.ensures ∙ ap fresh_state c.before.zero-set.ensures ∙ zero-fresh ∙ rejected a.set a.verdict m.match.keys2
-
-pub state-of-spec : {M : Type 1} → statement M
-state-of-spec =
-    tie.close (tie.spec enum_told fresh-requires returns zero-set-requires fresh-requires-2 returns-2)
+    let m = c in
+    let a = m.args in
+    c.fresh-2.ensures ∙ ap fresh_state c.zero_set.ensures ∙ zero-fresh ∙ rejected a.set a.verdict m.in-Accepted.keys2
