@@ -22,8 +22,8 @@ unfolding zero_set
 zero-fresh = refl
 
 -- any verdict but acceptance leads to the zero state
-rejected : (s : Set) (v : Verdict) → OneOf (1 ∷ 2 ∷ 3 ∷ 4 ∷ 5 ∷ []) (tag_of the_type v) → zero_state ≡ start_state s v
-rejected s Accepted h = absurd (miss (1 ∷ 2 ∷ 3 ∷ 4 ∷ 5 ∷ []) 0 tt h)
+rejected : (s : Set) (v : Verdict) → (v ≡ Accepted → ⊥) → zero_state ≡ start_state s v
+rejected s Accepted h = absurd (h refl)
 rejected s BadSet h = refl
 rejected s ShortScratch h = refl
 rejected s (NoVector w) h = refl
@@ -39,4 +39,4 @@ pub returns : goal.returns
 returns c =
     let m = c in
     let a = m.args in
-    c.fresh-2.ensures ∙ ap fresh_state c.zero_set.ensures ∙ zero-fresh ∙ rejected a.set a.verdict m.in-Accepted.keys2
+    c.fresh-2.ensures ∙ ap fresh_state c.zero_set.ensures ∙ zero-fresh ∙ rejected a.set a.verdict c.in_default.not-Accepted
