@@ -22,13 +22,13 @@ pub find_of_law : (f g : Found) (number : ℕ) → number ≡ get_or (find_told 
 find_of_law f g number e h = λ i. record { number = e i; output = (find_result (find_told (sym h i))).output; point = (find_result (find_told (sym h i))).point }
 
 -- a refusal has no values
-pub find_bare : (f : Found) (number : ℕ) → number ≡ get_or (find_told f) 0 0 → OneOf (2 ∷ 3 ∷ 4 ∷ []) (tag_of the_type f)
+pub find_bare : (f : Found) (number : ℕ) → number ≡ get_or (find_told f) 0 0 → ((k : ℕ) → f ≡ Read k → ⊥) → ((k : ℕ) → f ≡ Output k → ⊥)
     → record { number = number; output = 0; point = 0 } ≡ find_result (find_told f)
-find_bare (Read k) number e h = absurd (miss (2 ∷ 3 ∷ 4 ∷ []) 0 tt h)
-find_bare (Output k) number e h = absurd (miss (2 ∷ 3 ∷ 4 ∷ []) 1 tt h)
-find_bare BadSet number e h = find_of_law BadSet BadSet number e refl
-find_bare BadLength number e h = find_of_law BadLength BadLength number e refl
-find_bare Unknown number e h = find_of_law Unknown Unknown number e refl
+find_bare (Read k) number e g h = absurd (g k refl)
+find_bare (Output k) number e g h = absurd (h k refl)
+find_bare BadSet number e g h = find_of_law BadSet BadSet number e refl
+find_bare BadLength number e g h = find_of_law BadLength BadLength number e refl
+find_bare Unknown number e g h = find_of_law Unknown Unknown number e refl
 
 -- what is found in the set that was loaded is found in the file's
 pub find_crosses : (file : List ℕ) (l : Loaded) → l ≡ load_of file → (name : List ℕ) (f : Found) (x : FindResult)

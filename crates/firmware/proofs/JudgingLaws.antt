@@ -30,14 +30,14 @@ verdict_of v u number e h =
     }
 
 -- acceptance, 20 and 21 have no values
-pub verdict_bare : (v : Verdict) (number : ℕ) → number ≡ get_or (verdict_told v) 0 0 → OneOf (0 ∷ 1 ∷ 2 ∷ []) (tag_of the_type v)
+pub verdict_bare : (v : Verdict) (number : ℕ) → number ≡ get_or (verdict_told v) 0 0 → ((w : ℕ) → v ≡ NoVector w → ⊥) → ((w k : ℕ) → v ≡ Clash w k → ⊥) → ((w g : ℕ) → v ≡ NoEnd w g → ⊥)
     → record { number = number; output = 0; request = 0; word = 0 } ≡ verdict_result (verdict_told v)
-verdict_bare Accepted number e h = verdict_of Accepted Accepted number e refl
-verdict_bare BadSet number e h = verdict_of BadSet BadSet number e refl
-verdict_bare ShortScratch number e h = verdict_of ShortScratch ShortScratch number e refl
-verdict_bare (NoVector w) number e h = absurd (miss (0 ∷ 1 ∷ 2 ∷ []) 3 tt h)
-verdict_bare (Clash w k) number e h = absurd (miss (0 ∷ 1 ∷ 2 ∷ []) 4 tt h)
-verdict_bare (NoEnd w g) number e h = absurd (miss (0 ∷ 1 ∷ 2 ∷ []) 5 tt h)
+verdict_bare Accepted number e f g h = verdict_of Accepted Accepted number e refl
+verdict_bare BadSet number e f g h = verdict_of BadSet BadSet number e refl
+verdict_bare ShortScratch number e f g h = verdict_of ShortScratch ShortScratch number e refl
+verdict_bare (NoVector w) number e f g h = absurd (f w refl)
+verdict_bare (Clash w k) number e f g h = absurd (g w k refl)
+verdict_bare (NoEnd w r) number e f g h = absurd (h w r refl)
 
 -- what is said by the set that was loaded is said by the file's
 module _ (file : List ℕ) (l : Loaded) (e : l ≡ load_of file) where

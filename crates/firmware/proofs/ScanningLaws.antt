@@ -27,9 +27,9 @@ scan_of_law a b p number e h =
     λ i. record { number = e i; vector = (scan_result (scan_told (sym h i)) p).vector; passes = (scan_result (scan_told (sym h i)) p).passes; past = p }
 
 -- a refusal has no values
-pub scan_bare : (a : ScanAnswer) (p : Past) (number : ℕ) → number ≡ get_or (scan_told a) 0 0 → OneOf (1 ∷ 2 ∷ 3 ∷ 4 ∷ []) (tag_of the_type a)
+pub scan_bare : (a : ScanAnswer) (p : Past) (number : ℕ) → number ≡ get_or (scan_told a) 0 0 → ((v made : ℕ) → a ≡ Sent v made → ⊥)
     → record { number = number; vector = 0; passes = 0; past = p } ≡ scan_result (scan_told a) p
-scan_bare (Sent v made) p number e h = absurd (miss (1 ∷ 2 ∷ 3 ∷ 4 ∷ []) 0 tt h)
+scan_bare (Sent v made) p number e h = absurd (h v made refl)
 scan_bare BadState p number e h = scan_of_law BadState BadState p number e refl
 scan_bare BadSensor p number e h = scan_of_law BadSensor BadSensor p number e refl
 scan_bare BadRequest p number e h = scan_of_law BadRequest BadRequest p number e refl

@@ -6,8 +6,7 @@ use mir.Val.{bool_byte}
 use Rattle.scan.specs.declared.set.State.{State}
 use Rattle.firmware.specs.Past.{past_of}
 use borrow.Author.Rules.{rules}
-use Rattle.firmware.proofs.past.past_of.Statement.{statement}
-use Rattle.firmware.proofs.past.past_of.Tie as tie
+use Rattle.firmware.proofs.past.past_of.Goals as goal
 
 -- a Bool as a byte
 as_byte : (b : Bool) → bool_byte b ≡ cond {A = ℕ} b 1 0
@@ -19,13 +18,7 @@ past_by : (st : State) (output accepted sensor : ℕ) → output ≡ st.past_out
     → record { output = output; accepted = accepted; sensor = sensor } ≡ past_of st
 past_by st output accepted sensor eo ea es = λ i. record { output = eo i; accepted = ea i; sensor = es i }
 
-cast-t2 : tie.Need-overflow-cast-t2
-cast-t2 c = search rules
-
-returns : tie.Need-returns
+pub returns : goal.returns
 returns c =
-    let st = c.before.args.st in
+    let st = c.args.st in
     past_by st _ _ _ refl (as_byte st.accepted) refl
-
-pub past_of-spec : {M : Type 1} → statement M
-past_of-spec = tie.close (tie.spec cast-t2 returns)
