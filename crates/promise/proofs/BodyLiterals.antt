@@ -33,6 +33,7 @@ In x (y ∷ l) = (y ≡ x) ⊎ In x l
 
 -- of two lists one after the other
 in_left : {A : Type 0} (x : A) (a b : List A) → In x a → In x (a ++ b)
+in_left x [] b h = elim h [ ]
 in_left x (y ∷ a) b (inl e) = inl e
 in_left x (y ∷ a) b (inr h) = inr (in_left x a b h)
 
@@ -105,6 +106,7 @@ none_has false j h = omega arith
 
 -- A literal of a list has its bytes among the list's.
 in_bytes : (wide : Bool) (l : Said) (ls : List Said) → In l ls → (j : ℕ) × HasLiteral (field_by wide ls) j × SaysLiteral wide (field_by wide ls) j l
+in_bytes wide l [] h = elim h [ ]
 in_bytes wide l (m ∷ ls) (inl e) = let f = first_says wide m ls in (0, f.0, subst (SaysLiteral wide (field_by wide (m ∷ ls)) 0) e f.1)
 in_bytes wide l (m ∷ ls) (inr h) =
     let s = in_bytes wide l ls h in
@@ -157,6 +159,9 @@ module _ (c : Constraint) where
 
   -- a literal of point k
   said_in : (o p q : Bool) (k x : ℕ) (l : Said) → In l (said_if o p q k x) → (g : Bool) × (l ≡ said o g k x) × (cond g q p ≡ true)
+  said_in o true q k x l (inr h) = elim h [ ]
+  said_in o false true k x l (inr h) = elim h [ ]
+  said_in o false false k x l h = elim h [ ]
   said_in o true q k x l (inl e) = (false, sym e, refl)
   said_in o false true k x l (inl e) = (true, sym e, refl)
 

@@ -11,7 +11,7 @@ use lib.ListN.{get_or, drop}
 use Rattle.header.specs.Test.{Test, FirstFails}
 use Rattle.promise.specs.Fields.{Fields, in_fields}
 use Rattle.promise.specs.Fields.Fields.{ends, cut, field}
-use Rattle.promise.specs.Column.{Given, missing, head_tests, name_tests, read_tests, in_twos, in_threes, literal_tests, body_tests}
+use Rattle.promise.specs.Column.{Given, missing, head_tests, name_tests, read_tests, in_twos, in_threes, literal_tests, body_tests, in_order}
 use Rattle.promise.specs.Column.{end_tests, constraints_tests, rest_tests, outputs_tests, reads_tests, counts_tests, load_tests}
 use Rattle.promise.proofs.ColumnLaws.{load_refused}
 use Rattle.loader.specs.Load.{load_of}
@@ -57,7 +57,7 @@ read_numbered at n kinds names body = (omega arith, name_numbered at names (drop
 literal_numbered : (at r n next : ℕ) (given : List Given) → Numbered (literal_tests at r n next given)
 unfolding literal_tests
 literal_numbered at r n next [] = tt
-literal_numbered at r n next (l ∷ rest) = (omega arith, (omega arith, literal_numbered at r n _ rest))
+literal_numbered at r n next (l ∷ rest) = (omega arith, (omega arith, literal_numbered at r n (in_order l + 1) rest))
 
 body_numbered : (at r n tag : ℕ) (body : List ℕ) → Numbered (body_tests at r n tag body)
 unfolding body_tests

@@ -140,6 +140,7 @@ module _ (pre : List Shown) (words : List (List ℕ)) (others : Bool) (q : other
 -- ---- one of a list
 
 pub among_left : {A : Type 0} (x : A) (a b : List A) → Among x a → Among x (a ++ b)
+among_left x [] b h = elim h [ ]
 among_left x (y ∷ a) b (inl e) = inl e
 among_left x (y ∷ a) b (inr h) = inr (among_left x a b h)
 
@@ -175,3 +176,5 @@ module _ (p : ℕ → Bool) (item : ℕ → Shown) where
     where
       there : (b : Bool) → Among l (one_if b (item n)) → (b ≡ true) × (item n ≡ l)
       there true (inl e) = (refl, e)
+      there true (inr h) = elim h [ ]
+      there false h = elim h [ ]
