@@ -1,16 +1,13 @@
 -- The laws of specs/Finding: what is put together step by step is what the definitions say.
 -- Assumes nothing.
 use mathlib.Core.Path.{◌≡◌, refl, sym, ap, ◌∙◌}
-use mathlib.Core.List.{List, [], ◌∷◌}
+use mathlib.Core.List.{List}
 use Prim.Native.Nat.{ℕ}
 use lib.ListN.{get_or}
-use denote.Enum.Declared.{tag_of}
-use types.Run.{OneOf, miss}
 use Rattle.loader.specs.declared.loader.Loaded.{Loaded}
 use Rattle.loader.specs.Load.{load_of}
 use Rattle.shape.specs.declared.finding.Found.{Found}
 use Rattle.shape.specs.declared.finding.Found.TheVariants.{Read, Output, BadSet, BadLength, Unknown}
-use Rattle.shape.specs.contracts.finding.Found.{the_type}
 use Rattle.shape.specs.Finding.{find_of}
 use Rattle.shape.specs.Told.{find_told}
 use Rattle.firmware.specs.declared.finding.FindResult.{FindResult}

@@ -1,16 +1,13 @@
 -- The laws of specs/Judging: what is put together step by step is what the definitions say.
 -- Assumes nothing.
 use mathlib.Core.Path.{◌≡◌, refl, sym, ap, ◌∙◌, subst}
-use mathlib.Core.List.{List, [], ◌∷◌}
+use mathlib.Core.List.{List}
 use Prim.Native.Nat.{ℕ}
 use lib.ListN.{get_or, drop}
-use denote.Enum.Declared.{tag_of}
-use types.Run.{OneOf, miss}
 use Rattle.loader.specs.declared.loader.Loaded.{Loaded}
 use Rattle.loader.specs.Load.{load_of}
 use Rattle.verdict.specs.declared.verdict.Verdict.{Verdict}
 use Rattle.verdict.specs.declared.verdict.Verdict.TheVariants.{Accepted, BadSet, ShortScratch, NoVector, Clash, NoEnd}
-use Rattle.verdict.specs.contracts.verdict.Verdict.{the_type}
 use Rattle.verdict.specs.Judge.{judge_of, loose_bytes}
 use Rattle.verdict.specs.Told.{verdict_told}
 use Rattle.firmware.specs.declared.judging.VerdictResult.{VerdictResult}

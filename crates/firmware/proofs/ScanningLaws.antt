@@ -1,18 +1,15 @@
 -- The laws of specs/Scanning: what is put together step by step is what the definitions say.
 -- Assumes nothing.
 use mathlib.Core.Path.{◌≡◌, refl, sym, ap, ◌∙◌}
-use mathlib.Core.List.{List, [], ◌∷◌}
+use mathlib.Core.List.{List}
 use Prim.Native.Nat.{ℕ}
 use lib.ListN.{get_or}
-use denote.Enum.Declared.{tag_of}
-use types.Run.{OneOf, miss}
 use Rattle.scan.specs.declared.set.State.{State}
 use Rattle.loader.specs.declared.loader.Loaded.{Loaded}
 use Rattle.loader.specs.Load.{load_of}
 use Rattle.machine.specs.declared.machine.ScanAnswer.{ScanAnswer}
 use Rattle.machine.specs.declared.machine.ScanAnswer.TheVariants.{Sent, BadState, BadSensor, BadRequest, Unsafe}
 use Rattle.machine.specs.declared.machine.Scanned.{Scanned}
-use Rattle.machine.specs.contracts.machine.ScanAnswer.{the_type}
 use Rattle.machine.specs.Machine.{scan_of}
 use Rattle.machine.specs.Told.{scan_told}
 use Rattle.firmware.specs.declared.past.Past.{Past}

@@ -18,7 +18,7 @@ use Rattle.loader.specs.declared.loader.LoadAnswer.TheVariants.{Loaded as WasLoa
 use Rattle.loader.specs.Load.{load_of}
 use Rattle.verdict.specs.declared.verdict.Verdict.{Verdict}
 use Rattle.verdict.specs.Judge.{judge_of, loose_bytes}
-use Rattle.line.specs.declared.printer.Line.TheVariants.{Accept, Load, NoVector, Clash, NoEnd}
+use Rattle.line.specs.declared.printer.Line.TheVariants.{Accept, Load, NoVector}
 use Rattle.line.specs.Line.{spaced, line_bytes, line_answer, buffer_after, verdict_line, answer_line, line_of, answer_loose, loose_of}
 
 -- one, two and three pieces behind a word

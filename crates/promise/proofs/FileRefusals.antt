@@ -14,7 +14,6 @@ use Rattle.words.proofs.BoolLaws.{by_test}
 use Rattle.scan.specs.declared.set.Set.{Set}
 use Rattle.scan.specs.Set.{zero_set}
 use Rattle.scan.specs.Shape.{well_formed}
-use Rattle.verdict.proofs.JudgeLaws.{bad_set}
 use Rattle.loader.specs.declared.loader.LoadAnswer.{LoadAnswer}
 use Rattle.loader.specs.declared.loader.LoadAnswer.TheVariants.{Loaded as WasLoaded, Refused as WasRefused}
 use Rattle.loader.specs.declared.loader.Loaded.{Loaded}

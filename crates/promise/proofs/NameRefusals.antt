@@ -20,7 +20,6 @@ use Rattle.shape.specs.Finding.{find_padded, find_of}
 use Rattle.shape.specs.Told.{find_told}
 use Rattle.shape.proofs.FindingLaws.{find_read, find_output, find_none, find_bad, find_length, find_strange, find_named}
 use Rattle.shape.proofs.FoundPoints.{read_found, output_found, found_read, found_output}
-use Rattle.writer.proofs.WriteLaws as Write
 use Rattle.promise.specs.Allowed.{read_name, output_name, LengthAllowed, NoPoint}
 use Rattle.promise.specs.Meanings.{NameBytesMean}
 use Rattle.promise.specs.Promise.{FindRefusals}

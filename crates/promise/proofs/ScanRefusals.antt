@@ -19,7 +19,6 @@ use Rattle.scan.proofs.ShapeLaws.{is_sensor_law}
 use Rattle.machine.proofs.PastLaws.{sensor_lt, sensor_bits, sensor_allowed}
 use Rattle.scan.proofs.WalkLaws.{reaches_or_never}
 use Rattle.machine.proofs.MachineLaws.{state_parts, state_passes, state_formed, request_lt, request_passes, scan_bad_state, scan_bad_sensor, scan_bad_request, scan_sends, scan_unsafe, refused_keeps_state}
-use Rattle.writer.proofs.WriteLaws as Write
 use Rattle.promise.specs.Allowed.{StateAllowed, SensorAllowed, RequestAllowed, word_of}
 use Rattle.promise.specs.Verdicts.{EndsSafe}
 use Rattle.promise.specs.Promise.{ScanRefusals}

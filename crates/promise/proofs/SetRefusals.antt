@@ -18,7 +18,6 @@ use Rattle.verdict.specs.Told.{verdict_told}
 use Rattle.verdict.specs.Meaning.{Means}
 use Rattle.verdict.proofs.MeaningLaws.{verdict_means}
 use Rattle.verdict.proofs.JudgeLaws.{bad_set, short_scratch, loose_bad, loose_short, loose}
-use Rattle.writer.proofs.WriteLaws as Write
 use Rattle.promise.specs.Promise.{VerdictRefusals}
 use Rattle.promise.proofs.Numbers.{apart}
 

@@ -10,11 +10,11 @@ use native.Mathlib.Omega.{arith}
 use lib.Dec.{eqb, ltb, lit<}
 use lib.ListN.{length, get_or, set, length-set, get_or-eq_default}
 use lib.Bits.{bit_and, bit_or, and_le_l}
-use lib.Pow.{pow_pos, pow_mono}
+use lib.Pow.{pow_pos}
 use lib.Seq.{get_or-set_same, get_or-set_other}
-use borrow.Author.Tests.{eq-eqb, ne_eqb, eqb-true, lt-ltb, le-ltb, ltb-true, not-true, not-false}
+use borrow.Author.Tests.{eq-eqb, ne_eqb, eqb-true, lt-ltb, le-ltb, ltb-true, not-true}
 use Rattle.words.specs.Word.{bit}
-use Rattle.words.specs.Loop.{some, word, listed}
+use Rattle.words.specs.Loop.{some, listed}
 use Rattle.words.proofs.BoolLaws.{by_test, clash, same_truth, and_true}
 use Rattle.words.proofs.BitLaws.{bit_of_or, bit_zero, bit_pow, bit_above, same_bits, same_parts}
 use Rattle.words.proofs.LoopLaws.{some_at, some_true, some_cong, bit_word, bit_low, word_lt, some_bit, listed_long, listed_cong, get_d_listed}

@@ -1,13 +1,10 @@
 -- `decimal::digits_of` meets its contract. The loop's invariant: what is left of the number, written before the bytes from `at` on, gives the digits.
 -- Assumes nothing.
-use Prim.Native.Nat.{◌≤◌, ◌-◌}
-use borrow.Author.Rules.{rules}
-use mathlib.Core.Path.{◌≡◌, refl, ◌∙◌}
+use Prim.Native.Nat.{◌≤◌}
+use mathlib.Core.Path.{◌≡◌}
 use mathlib.Core.List.{◌++◌}
-use native.Mathlib.Omega.{arith}
-use lib.ListN.{length, take, drop, replicate, length-set}
-use Rattle.decimal.specs.Decimal.{last_digit, leading, decimal}
-use Rattle.decimal.proofs.DecimalLaws.{digits_start, digits_more, digits_end, digits_full, zeros_before}
+use lib.ListN.{length, take, drop, replicate}
+use Rattle.decimal.specs.Decimal.{leading, decimal}
 use Rattle.decimal.proofs.digits_of.Given as goal
 
 abbrev pub invariant-loop-at : goal.invariant-loop-at

@@ -12,7 +12,7 @@ use Rattle.scan.specs.declared.set.Constraint.{Constraint}
 use Rattle.scan.specs.Set.{most_reads, most_outputs, outs}
 use Rattle.scan.specs.Names.{name_bytes}
 use Rattle.text.specs.Grammar.{sensor_word, past_word, of_word, rest_word, never_word}
-use Rattle.text.specs.Text.{output_line, state_word, rank_words, behind, named_below, named_reads, several, spaced_words, parted, lines_text}
+use Rattle.text.specs.Text.{output_line, state_word, rank_words, behind, named_below, named_reads, several, parted, lines_text}
 
 -- no text has more bytes
 abbrev pub text_end : ℕ

@@ -1,6 +1,6 @@
 -- The code's way to a file: its parts, and a buffer with bytes put into it.
 -- Assumes nothing.
-use Rattle.std.specs.Prelude.{ℕ, ◌+◌, ◌^◌, ◌<◌, ◌≡◌, Bool, cond, List, [], ◌∷◌, ◌++◌, length, get_or, take, drop}
+use Rattle.std.specs.Prelude.{ℕ, ◌+◌, ◌^◌, ◌<◌, ◌≡◌, Bool, cond, List, [], ◌++◌, length, get_or, take, drop}
 use Rattle.std.specs.Int.Bits.{bit_or}
 use Rattle.words.specs.Loop.{joined}
 use Rattle.words.specs.Word.{bit}

@@ -1,6 +1,5 @@
 -- `firmware::finding::find_result` meets its contract. Assumes nothing.
 use Rattle.firmware.proofs.FindingLaws.{find_of_law, find_bare}
-use borrow.Author.Rules.{rules}
 use Rattle.firmware.proofs.finding.find_result.Goals as goal
 
 pub returns-in-Read : goal.returns-in-Read

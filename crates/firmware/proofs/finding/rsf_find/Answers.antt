@@ -1,6 +1,5 @@
 -- `firmware::finding::rsf_find` meets its contract. Assumes nothing.
 use Rattle.firmware.proofs.FindingLaws.{find_crosses}
-use borrow.Author.Rules.{rules}
 use Rattle.firmware.proofs.finding.rsf_find.Goals as goal
 
 pub returns : goal.returns

@@ -1,6 +1,5 @@
 -- `firmware::judging::rsf_judge` meets its contract. Assumes nothing.
 use Rattle.firmware.proofs.JudgingLaws.{judge_crosses, scratch_crosses}
-use borrow.Author.Rules.{rules}
 use Rattle.firmware.proofs.judging.rsf_judge.Goals as goal
 
 pub returns : goal.returns

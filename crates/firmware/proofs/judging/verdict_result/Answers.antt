@@ -1,6 +1,5 @@
 -- `firmware::judging::verdict_result` meets its contract. Assumes nothing.
 use Rattle.firmware.proofs.JudgingLaws.{verdict_of, verdict_bare}
-use borrow.Author.Rules.{rules}
 use Rattle.firmware.proofs.judging.verdict_result.Goals as goal
 
 pub returns-in-NoVector : goal.returns-in-NoVector

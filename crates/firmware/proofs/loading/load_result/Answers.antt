@@ -1,7 +1,6 @@
 -- `firmware::loading::load_result` meets its contract. Assumes nothing.
 use mathlib.Core.Path.{refl}
 use Rattle.firmware.proofs.LoadingLaws.{load_of_law}
-use borrow.Author.Rules.{rules}
 use Rattle.firmware.proofs.loading.load_result.Goals as goal
 
 pub returns-in-Loaded : goal.returns-in-Loaded

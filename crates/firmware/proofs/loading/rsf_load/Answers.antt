@@ -1,6 +1,5 @@
 -- `firmware::loading::rsf_load` meets its contract. Assumes nothing.
 use Rattle.firmware.proofs.LoadingLaws.{load_crosses}
-use borrow.Author.Rules.{rules}
 use Rattle.firmware.proofs.loading.rsf_load.Goals as goal
 
 pub returns : goal.returns

@@ -5,7 +5,6 @@ use Prim.Native.Nat.{ℕ}
 use mir.Val.{bool_byte}
 use Rattle.scan.specs.declared.set.State.{State}
 use Rattle.firmware.specs.Past.{past_of}
-use borrow.Author.Rules.{rules}
 use Rattle.firmware.proofs.past.past_of.Goals as goal
 
 -- a Bool as a byte

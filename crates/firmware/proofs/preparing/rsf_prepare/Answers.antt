@@ -1,7 +1,6 @@
 -- `firmware::preparing::rsf_prepare` meets its contract. Assumes nothing.
 use Rattle.firmware.proofs.LoadingLaws.{load_crosses}
 use Rattle.firmware.proofs.PreparingLaws.{prepare_crosses}
-use borrow.Author.Rules.{rules}
 use Rattle.firmware.proofs.preparing.rsf_prepare.Goals as goal
 
 pub returns : goal.returns

@@ -1,6 +1,5 @@
 -- `firmware::preparing::rsf_scan_prepared` meets its contract. Assumes nothing.
 use Rattle.firmware.proofs.PreparingLaws.{prepared_crosses}
-use borrow.Author.Rules.{rules}
 use Rattle.firmware.proofs.preparing.rsf_scan_prepared.Goals as goal
 
 pub returns : goal.returns

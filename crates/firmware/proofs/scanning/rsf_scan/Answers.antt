@@ -1,6 +1,5 @@
 -- `firmware::scanning::rsf_scan` meets its contract. Assumes nothing.
 use Rattle.firmware.proofs.ScanningLaws.{scan_crosses}
-use borrow.Author.Rules.{rules}
 use Rattle.firmware.proofs.scanning.rsf_scan.Goals as goal
 
 pub returns : goal.returns

@@ -1,6 +1,5 @@
 -- `firmware::scanning::scan_result` meets its contract. Assumes nothing.
 use Rattle.firmware.proofs.ScanningLaws.{scan_of_law, scan_bare}
-use borrow.Author.Rules.{rules}
 use Rattle.firmware.proofs.scanning.scan_result.Goals as goal
 
 pub returns-in-Sent : goal.returns-in-Sent

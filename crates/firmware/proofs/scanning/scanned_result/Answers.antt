@@ -2,7 +2,6 @@
 use mathlib.Core.Path.{ap, ◌∙◌}
 use Rattle.machine.specs.Told.{scan_told}
 use Rattle.firmware.specs.Scanning.{scan_result}
-use borrow.Author.Rules.{rules}
 use Rattle.firmware.proofs.scanning.scanned_result.Goals as goal
 
 pub returns : goal.returns

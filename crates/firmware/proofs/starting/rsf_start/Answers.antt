@@ -1,7 +1,6 @@
 -- `firmware::starting::rsf_start` meets its contract. Assumes nothing.
 use Rattle.firmware.proofs.JudgingLaws.{scratch_crosses}
 use Rattle.firmware.proofs.StartingLaws.{start_crosses}
-use borrow.Author.Rules.{rules}
 use Rattle.firmware.proofs.starting.rsf_start.Goals as goal
 
 pub returns : goal.returns

@@ -1,6 +1,5 @@
 -- `firmware::starting::start_result` meets its contract. Assumes nothing.
 use Rattle.firmware.proofs.StartingLaws.{start_of_law}
-use borrow.Author.Rules.{rules}
 use Rattle.firmware.proofs.starting.start_result.Goals as goal
 
 pub returns : goal.returns

@@ -6,7 +6,6 @@ use lib.ListN.{drop, length-drop}
 use Rattle.header.specs.Header.{body_length}
 use Rattle.header.specs.declared.header.RawField.TheVariants.{Field}
 use Rattle.header.proofs.HeaderLaws.{cut_header, cut_body, not_cut, raw_cut, raw_field, tag_at, length_at}
-use borrow.Author.Rules.{rules}
 use Rattle.header.proofs.header.field_at.Goals as goal
 use Rattle.header.proofs.header.field_at.Goals.{After-wide-low}
 

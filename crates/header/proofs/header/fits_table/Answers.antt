@@ -4,7 +4,6 @@ use native.Mathlib.Omega.{arith}
 use borrow.Author.Tests.{le-ltb, lt-ltb, le-leb, lt-leb}
 use Rattle.header.specs.Header.{shortest, longest}
 use Rattle.header.proofs.HeaderLaws.{step_positive}
-use borrow.Author.Rules.{rules}
 use Rattle.header.proofs.header.fits_table.Goals as goal
 
 pub returns-then-t-ge-TAG_BOUND : goal.returns-then-t-ge-TAG_BOUND

@@ -1,16 +1,14 @@
 -- `header::header::header_at` meets its contract: at each `return` the tests that led there say which case of `header_of` holds. Assumes nothing.
 use mathlib.Core.Path.{◌≡◌, sym, ◌∙◌}
-use mathlib.Core.Logic.{⊎_elim}
 use mathlib.Core.Bool.{true, false, ◌&&◌}
 use lib.Dec.{leb}
 use lib.ListN.{drop}
-use borrow.Author.Tests.{not-true, not-false, lt-leb, le-leb}
+use borrow.Author.Tests.{lt-leb, le-leb}
 use Rattle.scan.specs.Set.{most_constraints}
 use Rattle.header.specs.declared.header.RawField.TheVariants.{Field as Whole}
 use Rattle.header.specs.Tag.{is_constraint}
 use Rattle.header.specs.Header.{is_due, raw_of}
 use Rattle.header.proofs.HeaderLaws.{past_end, not_due, too_many, not_in_table, a_field}
-use borrow.Author.Rules.{rules}
 use Rattle.header.proofs.header.header_at.Goals as goal
 use Rattle.header.proofs.header.header_at.Goals.{Else-not-is_due, In-Field, Joined-is_constraint, then-is_constraint+else-m-ge-MOST_CONSTRAINTS, else-is_constraint}
 
@@ -29,8 +27,8 @@ few : (c : Joined-is_constraint) → let f = c in
 few c =
     let told = sym c.is_constraint.ensures in
     elim c.if-is_constraint.branch [
-      then-is_constraint+else-m-ge-MOST_CONSTRAINTS w ↦ simp (told ∙ w.if-is_constraint.true, lt-leb _ _ w.if-m-ge-MOST_CONSTRAINTS.false)
-    | else-is_constraint w ↦ simp (told ∙ w.if-is_constraint.false)
+      | then-is_constraint+else-m-ge-MOST_CONSTRAINTS w ↦ simp (told ∙ w.if-is_constraint.true, lt-leb _ _ w.if-m-ge-MOST_CONSTRAINTS.false)
+      | else-is_constraint w ↦ simp (told ∙ w.if-is_constraint.false)
     ]
 
 pub returns-then-not-is_due : goal.returns-then-not-is_due

@@ -1,5 +1,4 @@
 -- `header::header::is_due` meets its contract: the tests say which case of `is_due` holds. Assumes nothing.
-use borrow.Author.Rules.{rules}
 use borrow.Author.Tests.{eq-eqb, ne_eqb}
 use Rattle.header.proofs.header.is_due.Goals as goal
 

@@ -2,11 +2,10 @@
 use borrow.Author.Rules.{rules}
 use mathlib.Core.Path.{◌≡◌, ap}
 use mathlib.Core.List.{List, ◌++◌}
-use Prim.Native.Nat.{ℕ, ◌+◌, ◌-◌, ◌≤◌}
+use Prim.Native.Nat.{ℕ}
 use native.Mathlib.Omega.{arith}
-use lib.ListN.{length, drop}
+use lib.ListN.{length}
 use Rattle.words.proofs.ListLaws.{mapped_long}
-use Rattle.decimal.specs.Decimal.{decimal}
 use Rattle.line.specs.way.Draft.{draft_bytes}
 use Rattle.line.proofs.DraftLaws.{rest_more, rest_none, spaced_made}
 use Rattle.line.proofs.draft.with_number.Goals as goal

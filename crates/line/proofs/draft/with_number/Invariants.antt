@@ -1,15 +1,11 @@
 -- `line::draft::with_number` meets its contract. The loop's invariant: the draft, with the digits from place k on, is the draft with the space and all digits.
 -- Assumes nothing.
-use borrow.Author.Rules.{rules}
-use mathlib.Core.Path.{◌≡◌, ap}
-use mathlib.Core.List.{List, ◌++◌}
-use Prim.Native.Nat.{ℕ, ◌+◌, ◌-◌, ◌≤◌}
-use native.Mathlib.Omega.{arith}
-use lib.ListN.{length, drop}
-use Rattle.words.proofs.ListLaws.{mapped_long}
+use mathlib.Core.Path.{◌≡◌}
+use mathlib.Core.List.{◌++◌}
+use Prim.Native.Nat.{◌+◌, ◌-◌, ◌≤◌}
+use lib.ListN.{drop}
 use Rattle.decimal.specs.Decimal.{decimal}
 use Rattle.line.specs.way.Draft.{draft_bytes}
-use Rattle.line.proofs.DraftLaws.{rest_more, rest_none, spaced_made}
 use Rattle.line.proofs.draft.with_number.Given as goal
 
 abbrev pub invariant-loop-k : goal.invariant-loop-k

@@ -1,7 +1,7 @@
 -- `line::draft::word_draft` meets its contract. The loop's invariant: the draft is the word's first k bytes. Assumes nothing.
 use borrow.Author.Rules.{rules}
 use mathlib.Core.Path.{◌≡◌, ap, ◌∙◌}
-use Prim.Native.Nat.{ℕ, ◌-◌, ◌≤◌}
+use Prim.Native.Nat.{ℕ}
 use native.Mathlib.Omega.{arith}
 use lib.ListN.{length, take}
 use Rattle.line.specs.way.Draft.{draft_bytes}

@@ -1,11 +1,8 @@
 -- `line::draft::word_draft` meets its contract. The loop's invariant: the draft is the word's first k bytes. Assumes nothing.
-use borrow.Author.Rules.{rules}
-use mathlib.Core.Path.{◌≡◌, ap, ◌∙◌}
-use Prim.Native.Nat.{ℕ, ◌-◌, ◌≤◌}
-use native.Mathlib.Omega.{arith}
-use lib.ListN.{length, take}
+use mathlib.Core.Path.{◌≡◌}
+use Prim.Native.Nat.{◌-◌, ◌≤◌}
+use lib.ListN.{take}
 use Rattle.line.specs.way.Draft.{draft_bytes}
-use Rattle.line.proofs.DraftLaws.{word_more}
 use Rattle.line.proofs.draft.word_draft.Given as goal
 
 abbrev pub invariant-loop-k : goal.invariant-loop-k

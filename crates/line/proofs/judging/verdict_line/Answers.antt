@@ -1,7 +1,6 @@
 -- `line::judging::verdict_line` meets its contract, for each verdict. Assumes nothing.
 use mathlib.Core.Path.{ap, sym}
 use Rattle.line.specs.Line.{verdict_line}
-use borrow.Author.Rules.{rules}
 use Rattle.line.proofs.judging.verdict_line.Goals as goal
 
 pub returns-in-Accepted : goal.returns-in-Accepted

@@ -4,7 +4,6 @@ use Rattle.line.specs.declared.printer.Line.TheVariants.{Load, Clash, NoEnd}
 use Rattle.line.specs.Line.{line_bytes}
 use Rattle.line.specs.way.Draft.{draft_bytes}
 use Rattle.line.proofs.LineLaws.{accept_made, no_vector_made, two_made}
-use borrow.Author.Rules.{rules}
 use Rattle.line.proofs.printer.line_draft.Goals as goal
 
 pub returns-in-Accept : goal.returns-in-Accept

@@ -3,7 +3,6 @@ use native.Mathlib.Omega.{arith}
 use Rattle.line.specs.Line.{spaced}
 use Rattle.line.specs.way.Draft.{draft_bytes}
 use Rattle.line.proofs.LineLaws.{two_pieces}
-use borrow.Author.Rules.{rules}
 use Rattle.line.proofs.printer.two_draft.Goals as goal
 
 pub returns : goal.returns

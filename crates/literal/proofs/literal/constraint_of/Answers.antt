@@ -2,7 +2,6 @@
 use mathlib.Core.Path.{sym, ap}
 use Prim.Native.Nat.{◌+◌, ◌%◌, ◌^◌}
 use native.Mathlib.Nat.{div-one}
-use borrow.Author.Rules.{rules}
 use Rattle.scan.specs.Set.{most_reads, most_outputs}
 use Rattle.literal.specs.way.Literal.{sign_bits, part}
 use Rattle.literal.proofs.literal.constraint_of.Goals as goal

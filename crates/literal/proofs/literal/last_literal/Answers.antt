@@ -1,7 +1,6 @@
 -- `literal::literal::last_literal` meets its contract: the tests say which case of `last_literal` holds. Assumes nothing.
 use mathlib.Core.Path.{◌≡◌, sym, ap, ◌∙◌}
 use mathlib.Core.Bool.{Bool, true, not, ◌&&◌}
-use borrow.Author.Rules.{rules}
 use Rattle.header.specs.Tag.{names_high}
 use Rattle.literal.specs.Literal.{good_literals}
 use Rattle.literal.specs.way.Literal.{of_word}

@@ -4,7 +4,6 @@ use mathlib.Core.Bool.{Bool}
 use Prim.Native.Nat.{◌+◌, ◌≤◌}
 use native.Mathlib.Omega.{arith}
 use lib.ListN.{length, get_or}
-use borrow.Author.Rules.{rules}
 use Rattle.words.proofs.BoolLaws.{cond_true, cond_false}
 use Rattle.header.specs.Tag.{literal_size}
 use Rattle.literal.specs.Literal.{narrow, wide}

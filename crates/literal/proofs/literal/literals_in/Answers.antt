@@ -1,12 +1,10 @@
 -- `literal::literal::literals_in` meets its contract. The loop's invariant: the literals from place i on, added to the constraint so far, give what the whole body gives. Assumes nothing.
-use borrow.Author.Rules.{rules}
-use borrow.Author.Tests.{not-true, not-false}
 use mathlib.Core.Bool.{true, cond}
 use mathlib.Core.List.{List, ◌∷◌}
 use mathlib.Core.Path.{◌≡◌, refl, sym, ap₂, subst, ◌∙◌}
-use Prim.Native.Nat.{ℕ, ◌+◌, ◌-◌, ◌≤◌, ◌<◌, min}
+use Prim.Native.Nat.{ℕ, ◌+◌, ◌≤◌, ◌<◌, min}
 use native.Mathlib.Omega.{arith}
-use lib.ListN.{length, drop, set}
+use lib.ListN.{drop, set}
 use Rattle.words.proofs.BoolLaws.{cond_true, cond_false}
 use Rattle.scan.specs.Set.{most_reads, most_outputs}
 use Rattle.header.specs.Tag.{literal_size}

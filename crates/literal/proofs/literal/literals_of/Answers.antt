@@ -4,7 +4,6 @@ use mathlib.Core.Bool.{Bool, true, false}
 use Prim.Native.Nat.{min}
 use Rattle.scan.specs.Set.{most_reads, most_outputs}
 use Rattle.literal.specs.Literal.{literals_of}
-use borrow.Author.Rules.{rules}
 use Rattle.literal.proofs.literal.literals_of.Goals as goal
 
 pub returns-then-wide : goal.returns-then-wide

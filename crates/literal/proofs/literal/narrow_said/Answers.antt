@@ -1,6 +1,5 @@
 -- `literal::literal::narrow_said` meets its contract. Assumes nothing.
 use lib.Dec.{eqb}
-use borrow.Author.Rules.{rules}
 use Rattle.literal.proofs.literal.narrow_said.Goals as goal
 
 pub returns : goal.returns

@@ -1,5 +1,4 @@
 -- `literal::literal::place_of` meets its contract. Assumes nothing.
-use borrow.Author.Rules.{rules}
 use Rattle.literal.proofs.literal.place_of.Goals as goal
 
 pub returns-then-l : goal.returns-then-l

@@ -1,5 +1,4 @@
 -- `literal::literal::refused_literals` meets its contract. Assumes nothing.
-use borrow.Author.Rules.{rules}
 use Rattle.literal.proofs.literal.refused_literals.Goals as goal
 
 pub returns : goal.returns

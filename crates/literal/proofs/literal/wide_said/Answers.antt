@@ -1,6 +1,5 @@
 -- `literal::literal::wide_said` meets its contract. Assumes nothing.
 use lib.Dec.{eqb}
-use borrow.Author.Rules.{rules}
 use Rattle.literal.proofs.literal.wide_said.Goals as goal
 
 pub returns : goal.returns

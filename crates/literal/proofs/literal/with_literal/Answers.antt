@@ -1,9 +1,7 @@
 -- `literal::literal::with_literal` meets its contract: the bit that is set is within the word. Assumes nothing.
 use mathlib.Core.Path.{◌≡◌, sym, ap, subst, ◌∙◌}
-use mathlib.Core.Logic.{⊎_elim}
 use Prim.Native.Nat.{◌^◌, ◌<◌}
 use lib.Bits.{bit_or}
-use borrow.Author.Rules.{rules}
 use Rattle.words.proofs.BoolLaws.{cond_true, cond_false}
 use Rattle.words.proofs.ShiftLaws.{one_shl}
 use Rattle.literal.specs.way.Literal.{bit_at}
@@ -15,8 +13,8 @@ use Rattle.literal.proofs.literal.with_literal.Goals.{After-row_known-1, then-ne
 bit_is : (c : After-row_known-1) → c.if-negated.bit ≡ bit_at c.args.negated c.args.at
 bit_is c =
     elim c.if-negated.branch [
-      then-negated w ↦ w.bit-is ∙ cond_true c.args.negated _ _ w.if-negated.true
-    | else-negated w ↦ w.bit-is ∙ cond_false c.args.negated _ _ w.if-negated.false
+      | then-negated w ↦ w.bit-is ∙ cond_true c.args.negated _ _ w.if-negated.true
+      | else-negated w ↦ w.bit-is ∙ cond_false c.args.negated _ _ w.if-negated.false
     ]
 
 pub overflow_shl-result : goal.overflow_shl-result

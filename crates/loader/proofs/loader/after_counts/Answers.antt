@@ -3,7 +3,6 @@ use mathlib.Core.Path.{◌∙◌, ap}
 use Rattle.scan.specs.Set.{with_reads}
 use Rattle.loader.specs.Load.{answered, of_counts, after_reads}
 use Rattle.loader.proofs.LoadTurns.{stays, goes}
-use borrow.Author.Rules.{rules}
 use Rattle.loader.proofs.loader.after_counts.Goals as goal
 
 pub returns-in-Refused : goal.returns-in-Refused

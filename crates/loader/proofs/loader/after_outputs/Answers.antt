@@ -4,7 +4,6 @@ use Rattle.loader.specs.Load.{answered, after_rest}
 use Rattle.loader.specs.way.Load.{rested_set}
 use Rattle.loader.proofs.LoadTurns.{stays, goes}
 use Rattle.loader.proofs.LoadWayLaws.{rest_stepped}
-use borrow.Author.Rules.{rules}
 use Rattle.loader.proofs.loader.after_outputs.Goals as goal
 
 pub returns-in-Refused : goal.returns-in-Refused

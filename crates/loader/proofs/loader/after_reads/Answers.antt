@@ -3,7 +3,6 @@ use mathlib.Core.Path.{◌∙◌, ap}
 use Rattle.loader.specs.Load.{answered, after_outputs}
 use Rattle.loader.specs.way.Load.{points_set}
 use Rattle.loader.proofs.LoadTurns.{stays, goes}
-use borrow.Author.Rules.{rules}
 use Rattle.loader.proofs.loader.after_reads.Goals as goal
 
 pub returns-in-Refused : goal.returns-in-Refused

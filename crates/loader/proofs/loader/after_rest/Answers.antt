@@ -2,7 +2,6 @@
 use mathlib.Core.Path.{sym, ◌∙◌, ap}
 use Rattle.loader.specs.Load.{answered}
 use Rattle.loader.specs.way.Load.{reached, whole_set}
-use borrow.Author.Rules.{rules}
 use Rattle.loader.proofs.loader.after_rest.Goals as goal
 
 pub returns-in-Refused : goal.returns-in-Refused

@@ -1,20 +1,13 @@
 -- `loader::loader::constraints_at` meets its contract. The loop's invariant: the fields from here on, behind the constraints so far, give what all of
 -- them give, whichever points the set has. Assumes nothing.
-use mathlib.Core.Path.{◌≡◌, sym, ap, ◌∙◌}
+use mathlib.Core.Path.{◌≡◌}
 use mathlib.Core.List.{List}
-use Prim.Native.Nat.{ℕ, suc, ◌+◌, ◌-◌, ◌≤◌, ◌<◌}
-use native.Mathlib.Omega.{arith}
-use lib.ListN.{length, drop}
+use Prim.Native.Nat.{ℕ, suc, ◌-◌, ◌≤◌}
 use Rattle.scan.specs.declared.set.ReadPoint.{ReadPoint}
 use Rattle.scan.specs.declared.set.OutputPoint.{OutputPoint}
-use Rattle.scan.specs.Set.{most_constraints, zero_set}
-use Rattle.header.specs.declared.header.Header.TheVariants.{Field}
-use Rattle.header.specs.Header.{header_of}
-use Rattle.loader.specs.Load.{with_constraint, constraints_from}
-use Rattle.loader.specs.way.Load.{reached, rested_set, whole_set}
-use Rattle.header.proofs.HeaderLaws.{field_within, constraint_length, front_place, front_header}
-use Rattle.loader.proofs.LoadTurns.{constraints_stopped, constraints_end, constraints_by}
-use borrow.Author.Rules.{rules}
+use Rattle.scan.specs.Set.{most_constraints}
+use Rattle.loader.specs.Load.{constraints_from}
+use Rattle.loader.specs.way.Load.{rested_set, whole_set}
 use Rattle.loader.proofs.loader.constraints_at.Given as goal
 
 abbrev pub invariant-loop-number : goal.invariant-loop-number

@@ -5,7 +5,6 @@ use mathlib.Core.List.{List}
 use Prim.Native.Nat.{ℕ, ◌+◌, ◌≤◌}
 use native.Mathlib.Omega.{arith}
 use lib.ListN.{length, get_or}
-use borrow.Author.Tests.{not-true, not-false}
 use Rattle.words.specs.Loop.{every}
 use Rattle.scan.specs.Shape.{count_tests}
 use Rattle.header.specs.declared.header.Header.TheVariants.{Field}
@@ -13,7 +12,6 @@ use Rattle.header.specs.Header.{header_of}
 use Rattle.loader.specs.Load.{refusal, going_on, of_counts, counts_at}
 use Rattle.header.proofs.HeaderLaws.{found, counts_length, front_place, front_there}
 use Rattle.loader.proofs.LoadLaws.{counts_stopped, counts_bad, counts_good}
-use borrow.Author.Rules.{rules}
 use Rattle.loader.proofs.loader.counts_at.Goals as goal
 use Rattle.loader.proofs.loader.counts_at.Goals.{After-front_at-front, In-Field}
 

@@ -6,7 +6,6 @@ use lib.ListN.{length}
 use borrow.Author.Tests.{lt-ltb, le-ltb}
 use Rattle.loader.specs.declared.loader.Progress.{Progress}
 use Rattle.loader.specs.declared.loader.Progress.TheVariants.{At, Refused}
-use borrow.Author.Rules.{rules}
 use Rattle.loader.proofs.loader.end_at.Goals as goal
 
 -- the place by whether bytes follow

@@ -3,7 +3,6 @@ use mathlib.Core.Path.{sym, ◌∙◌, ap}
 use Rattle.loader.specs.Load.{answered, of_counts, after_counts, load_from, load_of}
 use Rattle.loader.specs.way.Load.{reached}
 use Rattle.loader.proofs.LoadTurns.{stays, goes, counts_range}
-use borrow.Author.Rules.{rules}
 use Rattle.loader.proofs.loader.load.Goals as goal
 
 pub after_counts-requires : goal.after_counts-requires

@@ -1,16 +1,16 @@
 -- `loader::loader::outputs_at` meets its contract. The loop's invariant: the fields from here on, behind the outputs so far, give what all of them give,
 use mathlib.Core.Path.{◌≡◌}
 use mathlib.Core.List.{List}
-use Prim.Native.Nat.{◌-◌, ◌≤◌, ◌<◌}
+use Prim.Native.Nat.{◌<◌}
 use native.Mathlib.Nat.{sub-zero}
 use native.Mathlib.Omega.{arith}
 use Rattle.scan.specs.declared.set.ReadPoint.{ReadPoint}
-use Rattle.scan.specs.Set.{most_outputs, zero_set, with_reads}
+use Rattle.scan.specs.Set.{most_outputs, zero_set}
 use Rattle.shape.specs.way.Names.{ReadNames}
-use Rattle.loader.specs.Load.{of_counts, with_output, output_at, outputs_from}
+use Rattle.loader.specs.Load.{with_output, output_at, outputs_from}
 use Rattle.loader.specs.way.Load.{points_set, reached}
 use Rattle.loader.proofs.LoadTurns.{output_row, row_end, row_stays, row_goes}
-use Rattle.loader.proofs.LoadWayLaws.{OutputsKnown, outputs_none, outputs_more, output_stepped}
+use Rattle.loader.proofs.LoadWayLaws.{outputs_none, outputs_more, output_stepped}
 use borrow.Author.Rules.{rules}
 use Rattle.loader.proofs.loader.outputs_at.Goals as goal
 use Rattle.loader.proofs.loader.outputs_at.Goals.{After-output_at-step}

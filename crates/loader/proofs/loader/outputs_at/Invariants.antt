@@ -2,17 +2,13 @@
 -- whichever read points have the names; the list of names is that of the outputs so far. Assumes nothing.
 use mathlib.Core.Path.{◌≡◌}
 use mathlib.Core.List.{List}
-use Prim.Native.Nat.{◌-◌, ◌≤◌, ◌<◌}
-use native.Mathlib.Nat.{sub-zero}
-use native.Mathlib.Omega.{arith}
+use Prim.Native.Nat.{◌-◌, ◌≤◌}
 use Rattle.scan.specs.declared.set.ReadPoint.{ReadPoint}
-use Rattle.scan.specs.Set.{most_outputs, zero_set, with_reads}
+use Rattle.scan.specs.Set.{with_reads}
 use Rattle.shape.specs.way.Names.{ReadNames}
-use Rattle.loader.specs.Load.{of_counts, with_output, output_at, outputs_from}
-use Rattle.loader.specs.way.Load.{points_set, reached}
-use Rattle.loader.proofs.LoadTurns.{output_row, row_end, row_stays, row_goes}
-use Rattle.loader.proofs.LoadWayLaws.{OutputsKnown, outputs_none, outputs_more, output_stepped}
-use borrow.Author.Rules.{rules}
+use Rattle.loader.specs.Load.{of_counts, outputs_from}
+use Rattle.loader.specs.way.Load.{points_set}
+use Rattle.loader.proofs.LoadWayLaws.{OutputsKnown}
 use Rattle.loader.proofs.loader.outputs_at.Given as goal
 
 abbrev pub invariant-loop-j : goal.invariant-loop-j

@@ -1,6 +1,6 @@
 -- `loader::loader::reads_at` meets its contract. The loop's invariant: the fields from here on, behind the read points so far, give what all of them
 use mathlib.Core.Path.{◌≡◌, refl, sym, subst}
-use Prim.Native.Nat.{◌-◌, ◌≤◌, ◌<◌}
+use Prim.Native.Nat.{◌<◌}
 use native.Mathlib.Nat.{sub-zero}
 use native.Mathlib.Omega.{arith}
 use lib.ListN.{replicate}

@@ -1,16 +1,10 @@
 -- `loader::loader::reads_at` meets its contract. The loop's invariant: the fields from here on, behind the read points so far, give what all of them
 -- give; the names and the list of pasts are those of the read points so far. Assumes nothing.
-use mathlib.Core.Path.{◌≡◌, refl, sym, subst}
-use Prim.Native.Nat.{◌-◌, ◌≤◌, ◌<◌}
-use native.Mathlib.Nat.{sub-zero}
-use native.Mathlib.Omega.{arith}
-use lib.ListN.{replicate}
-use Rattle.scan.specs.Set.{most_reads, most_outputs, zero_name, zero_set, with_reads}
-use Rattle.loader.specs.Load.{of_counts, read_at, reads_from, with_read}
-use Rattle.loader.specs.way.Load.{reached}
-use Rattle.loader.proofs.LoadTurns.{read_row, row_end, row_stays, row_goes}
-use Rattle.loader.proofs.LoadWayLaws.{ReadsKnown, reads_none, reads_more, read_stepped}
-use borrow.Author.Rules.{rules}
+use mathlib.Core.Path.{◌≡◌}
+use Prim.Native.Nat.{◌-◌, ◌≤◌}
+use Rattle.scan.specs.Set.{with_reads}
+use Rattle.loader.specs.Load.{of_counts, reads_from}
+use Rattle.loader.proofs.LoadWayLaws.{ReadsKnown}
 use Rattle.loader.proofs.loader.reads_at.Given as goal
 
 abbrev pub invariant-loop-i : goal.invariant-loop-i

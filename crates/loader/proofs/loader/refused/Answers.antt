@@ -1,5 +1,4 @@
 -- `loader::loader::refused` meets its contract. Assumes nothing.
-use borrow.Author.Rules.{rules}
 use Rattle.loader.proofs.loader.refused.Goals as goal
 
 pub returns : goal.returns

@@ -6,7 +6,6 @@ use Rattle.scan.specs.declared.set.Kind.TheVariants.{PastSensor}
 use Rattle.loader.specs.Load.{kind_of, kind_if}
 use Rattle.loader.specs.way.Load.{not_past}
 use Rattle.loader.proofs.LoadLaws.{kind_0, kind_1, kind_2, kind_earlier, kind_other}
-use borrow.Author.Rules.{rules}
 use Rattle.loader.proofs.point.kind_of.Goals as goal
 use Rattle.loader.proofs.point.kind_of.Goals.{Then-k-i}
 

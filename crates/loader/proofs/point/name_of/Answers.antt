@@ -7,7 +7,6 @@ use borrow.Author.Tests.{not-true, not-false}
 use Rattle.scan.specs.Set.{most_reads, most_outputs}
 use Rattle.shape.specs.way.Names.{name_used}
 use Rattle.loader.proofs.LoadLaws.{name_bad, name_used_law, name_good}
-use borrow.Author.Rules.{rules}
 use Rattle.loader.proofs.point.name_of.Goals as goal
 use Rattle.loader.proofs.point.name_of.Goals.{After-spell-got}
 

@@ -6,7 +6,6 @@ use Rattle.shape.specs.way.Names.{name_used}
 use Rattle.loader.specs.Load.{name_field}
 use Rattle.loader.specs.way.Load.{not_past}
 use Rattle.loader.proofs.LoadLaws.{rest_of, read_bad, read_known}
-use borrow.Author.Rules.{rules}
 use Rattle.loader.proofs.point.read_field.Goals as goal
 
 pub returns-in-Bad : goal.returns-in-Bad

@@ -9,7 +9,6 @@ use Rattle.header.specs.Header.{header_of}
 use Rattle.header.proofs.HeaderLaws.{tag_at}
 use Rattle.loader.specs.declared.loader.Progress.TheVariants.{At}
 use Rattle.loader.specs.way.Load.{rest_step, rest_place}
-use borrow.Author.Rules.{rules}
 use Rattle.loader.proofs.rest.rest_at.Goals as goal
 
 module _ (s : List ℕ) (at n : ℕ) where

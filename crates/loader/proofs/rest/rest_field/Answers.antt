@@ -12,7 +12,6 @@ use Rattle.loader.specs.declared.loader.Progress.{Progress}
 use Rattle.loader.specs.Load.{rest_word, rest_good}
 use Rattle.loader.specs.way.Load.{place_behind, refused_rest, rest_step}
 use Rattle.loader.proofs.LoadLaws.{body_byte}
-use borrow.Author.Rules.{rules}
 use Rattle.loader.proofs.rest.rest_field.Goals as goal
 use Rattle.loader.proofs.rest.rest_field.Goals.{After-front_at-front, In-Field}
 

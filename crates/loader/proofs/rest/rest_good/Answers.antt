@@ -4,7 +4,6 @@ use mathlib.Core.Bool.{Bool, ◌&&◌}
 use Prim.Native.Nat.{◌^◌}
 use lib.Dec.{ltb}
 use Rattle.loader.specs.Load.{good_if}
-use borrow.Author.Rules.{rules}
 use Rattle.loader.proofs.rest.rest_good.Goals as goal
 use Rattle.loader.proofs.rest.rest_good.Goals.{After-both}
 

@@ -13,7 +13,6 @@ use Rattle.loader.specs.Load.{name_field}
 use Rattle.loader.specs.way.Load.{refused_name, name_step}
 use Rattle.header.proofs.HeaderLaws.{field_within, front_place, front_there, front_header}
 use Rattle.loader.proofs.LoadWayLaws.{field_step}
-use borrow.Author.Rules.{rules}
 use Rattle.loader.proofs.step.output_at.Goals as goal
 use Rattle.loader.proofs.step.output_at.Goals.{After-front_at-front, In-Field}
 

@@ -1,7 +1,6 @@
 -- `loader::step::place_behind` meets its contract: by what the body gives. Assumes nothing.
 use mathlib.Core.Path.{sym, ap}
 use Rattle.loader.specs.way.Load.{place_behind}
-use borrow.Author.Rules.{rules}
 use Rattle.loader.proofs.step.place_behind.Goals as goal
 
 pub returns-in-Refused : goal.returns-in-Refused

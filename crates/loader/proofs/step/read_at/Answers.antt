@@ -14,7 +14,6 @@ use Rattle.loader.specs.way.Load.{not_past, refused_read, read_step}
 use Rattle.header.proofs.HeaderLaws.{field_within, front_place, front_there, front_header, read_length}
 use Rattle.loader.proofs.LoadLaws.{body_long}
 use Rattle.loader.proofs.LoadWayLaws.{field_step}
-use borrow.Author.Rules.{rules}
 use Rattle.loader.proofs.step.read_at.Goals as goal
 use Rattle.loader.proofs.step.read_at.Goals.{After-front_at-front, In-Field}
 

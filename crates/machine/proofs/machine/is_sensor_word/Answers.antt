@@ -4,7 +4,6 @@ use mathlib.Core.Bool.{Bool, ◌&&◌}
 use Prim.Native.Nat.{◌^◌}
 use lib.Dec.{eqb, ltb}
 use lib.Bits.{bit_and}
-use borrow.Author.Rules.{rules}
 use Rattle.machine.proofs.machine.is_sensor_word.Goals as goal
 
 pub returns : goal.returns

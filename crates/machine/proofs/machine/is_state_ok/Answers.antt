@@ -3,7 +3,6 @@ use mathlib.Core.Path.{sym, ap₂, ◌∙◌}
 use mathlib.Core.Bool.{◌&&◌}
 use Rattle.words.proofs.BoolLaws.{and_unit}
 use Rattle.machine.specs.Machine.{state_ok}
-use borrow.Author.Rules.{rules}
 use Rattle.machine.proofs.machine.is_state_ok.Goals as goal
 
 pub returns : goal.returns

@@ -18,7 +18,6 @@ use Rattle.scan.specs.Shape.{well_formed}
 use Rattle.scan.specs.Walk.{walk}
 use Rattle.scan.proofs.ShapeLaws.{counts}
 use Rattle.machine.proofs.MachineLaws.{state_formed, scan_bad_state, scan_bad_sensor, scan_bad_request, scan_word, scan_walks}
-use borrow.Author.Rules.{rules}
 use Rattle.machine.proofs.machine.scan.Goals as goal
 use Rattle.machine.proofs.machine.scan.Goals.{After-is_sensor_word, After-walk_from-walked, Else-not-fits16, Else-not-is_sensor_word, Else-not-is_state_ok}
 

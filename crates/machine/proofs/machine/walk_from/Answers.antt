@@ -11,7 +11,6 @@ use Rattle.scan.specs.Walk.{walk_by, walk_held, walk}
 use Rattle.scan.specs.way.Table.{table_of, safe_over, safe_held, pass_in, walk_in}
 use Rattle.scan.proofs.ActiveLaws.{made_active}
 use Rattle.scan.proofs.TableLaws.{made_table, table_walk}
-use borrow.Author.Rules.{rules}
 use Rattle.machine.proofs.machine.walk_from.Goals as goal
 use Rattle.machine.proofs.machine.walk_from.Goals.{After-build_by-t}
 

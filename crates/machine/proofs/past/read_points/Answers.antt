@@ -1,14 +1,13 @@
 -- `machine::past::read_points` meets its contract. The invariant: of the read points passed, `past` has the past points, and `word` what they read. Assumes nothing.
 use mathlib.Core.Path.{◌≡◌, ap, ◌∙◌}
 use mathlib.Core.Bool.{not}
-use Prim.Native.Nat.{ℕ, ◌≤◌, ◌-◌}
+use Prim.Native.Nat.{ℕ}
 use native.Mathlib.Omega.{arith}
 use Rattle.words.specs.Loop.{word}
 use Rattle.scan.specs.Set.{kind}
 use Rattle.words.proofs.LoopTurns.{word_none, word_turn}
 use Rattle.machine.specs.Past.{reading_at, read_word}
 use Rattle.machine.specs.Machine.{is_past}
-use borrow.Author.Rules.{rules}
 use Rattle.machine.proofs.past.read_points.Goals as goal
 
 pub loop-k-init : goal.loop-k-init

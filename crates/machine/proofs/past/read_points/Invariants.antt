@@ -1,14 +1,9 @@
 -- `machine::past::read_points` meets its contract. The invariant: of the read points passed, `past` has the past points, and `word` what they read. Assumes nothing.
-use mathlib.Core.Path.{◌≡◌, ap, ◌∙◌}
-use mathlib.Core.Bool.{not}
-use Prim.Native.Nat.{ℕ, ◌≤◌, ◌-◌}
-use native.Mathlib.Omega.{arith}
+use mathlib.Core.Path.{◌≡◌}
+use Prim.Native.Nat.{◌≤◌, ◌-◌}
 use Rattle.words.specs.Loop.{word}
-use Rattle.scan.specs.Set.{kind}
-use Rattle.words.proofs.LoopTurns.{word_none, word_turn}
-use Rattle.machine.specs.Past.{reading_at, read_word}
+use Rattle.machine.specs.Past.{reading_at}
 use Rattle.machine.specs.Machine.{is_past}
-use borrow.Author.Rules.{rules}
 use Rattle.machine.proofs.past.read_points.Given as goal
 
 abbrev pub invariant-loop-k : goal.invariant-loop-k

@@ -4,7 +4,6 @@ use mathlib.Core.Bool.{Bool}
 use Prim.Native.Nat.{ℕ}
 use Rattle.scan.specs.declared.set.Kind.{Kind}
 use Rattle.machine.specs.Past.{reading}
-use borrow.Author.Rules.{rules}
 use Rattle.machine.proofs.past.reading_of.Goals as goal
 
 -- what a read point reads, where its kind is known

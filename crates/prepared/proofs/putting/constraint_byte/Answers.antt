@@ -5,7 +5,6 @@ use native.Mathlib.Omega.{arith}
 use lib.ListN.{drop}
 use Rattle.prepared.specs.Put.{digit, constraint_bytes}
 use Rattle.prepared.proofs.PutLaws.{behind, digit_two, digit_four}
-use borrow.Author.Rules.{rules}
 use Rattle.prepared.proofs.putting.constraint_byte.Goals as goal
 
 pub returns-then-j-lt4 : goal.returns-then-j-lt4

@@ -3,7 +3,6 @@ use mathlib.Core.Path.{◌≡◌, sym, ap, ◌∙◌}
 use Prim.Native.Nat.{◌%◌}
 use native.Mathlib.Omega.{arith}
 use Rattle.prepared.specs.Put.{digit}
-use borrow.Author.Rules.{rules}
 use Rattle.prepared.proofs.putting.digit_of.Goals as goal
 
 pub returns-then-j-eq0 : goal.returns-then-j-eq0

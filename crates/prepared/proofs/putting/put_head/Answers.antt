@@ -8,7 +8,6 @@ use Rattle.scan.specs.declared.set.Set.{Set}
 use Rattle.prepared.specs.Put.{prepared_bytes, digit, head_bytes, byte_of, up_to}
 use Rattle.prepared.proofs.FilledLaws.{filled_more}
 use Rattle.prepared.proofs.PutLaws.{head_at}
-use borrow.Author.Rules.{rules}
 use Rattle.prepared.proofs.putting.put_head.Goals as goal
 
 -- the five bytes of a head, one after the other

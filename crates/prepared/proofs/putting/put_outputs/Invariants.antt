@@ -1,13 +1,10 @@
 -- `prepared::putting::put_outputs` meets its contract. The invariant: the bytes passed are put, whatever the other parts of the set are. Assumes nothing.
-use mathlib.Core.Path.{◌≡◌, ap, ◌∙◌}
+use mathlib.Core.Path.{◌≡◌}
 use mathlib.Core.List.{List}
 use Prim.Native.Nat.{◌≤◌, ◌-◌}
-use native.Mathlib.Omega.{arith}
 use Rattle.scan.specs.declared.set.OutputPoint.{OutputPoint}
 use Rattle.scan.specs.declared.set.Set.{Set}
-use Rattle.prepared.specs.Put.{up_to}
-use Rattle.prepared.proofs.PutLaws.{Putting, put_more, output_at_law}
-use borrow.Author.Rules.{rules}
+use Rattle.prepared.proofs.PutLaws.{Putting}
 use Rattle.prepared.proofs.putting.put_outputs.Given as goal
 
 -- a set with these outputs

@@ -1,13 +1,8 @@
 -- `prepared::putting::put_reads` meets its contract. The invariant: the bytes passed are put, whatever the other parts of the set are. Assumes nothing.
 use mathlib.Core.Path.{◌≡◌, ap, ◌∙◌}
-use mathlib.Core.List.{List}
-use Prim.Native.Nat.{◌≤◌, ◌-◌}
 use native.Mathlib.Omega.{arith}
-use Rattle.scan.specs.declared.set.ReadPoint.{ReadPoint}
-use Rattle.scan.specs.declared.set.Set.{Set}
 use Rattle.prepared.specs.Put.{up_to}
-use Rattle.prepared.proofs.PutLaws.{Putting, put_more, read_at_law}
-use borrow.Author.Rules.{rules}
+use Rattle.prepared.proofs.PutLaws.{put_more, read_at_law}
 use Rattle.prepared.proofs.putting.put_reads.Goals as goal
 use Rattle.prepared.proofs.putting.put_reads.Invariants.{With}
 

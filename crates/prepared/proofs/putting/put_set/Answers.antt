@@ -3,7 +3,6 @@ use mathlib.Core.Path.{refl, ◌∙◌}
 use Rattle.prepared.specs.Put.{prepared_bytes, byte_of}
 use Rattle.prepared.proofs.FilledLaws.{filled_none}
 use Rattle.prepared.proofs.PutLaws.{put_all}
-use borrow.Author.Rules.{rules}
 use Rattle.prepared.proofs.putting.put_set.Goals as goal
 
 pub returns : goal.returns

@@ -2,7 +2,6 @@
 use native.Mathlib.Omega.{arith}
 use Rattle.prepared.specs.Put.{read_bytes}
 use Rattle.prepared.proofs.PutLaws.{behind}
-use borrow.Author.Rules.{rules}
 use Rattle.prepared.proofs.putting.read_byte.Goals as goal
 
 pub returns : goal.returns

@@ -1,5 +1,4 @@
 -- `prepared::said::constraint_in` meets its contract. Assumes nothing.
-use borrow.Author.Rules.{rules}
 use Rattle.prepared.proofs.said.constraint_in.Goals as goal
 
 pub returns : goal.returns

@@ -1,6 +1,5 @@
 -- `prepared::said::output_in` meets its contract. Assumes nothing.
 use mathlib.Core.Path.{ap}
-use borrow.Author.Rules.{rules}
 use Rattle.prepared.proofs.said.output_in.Goals as goal
 
 pub returns : goal.returns

@@ -1,12 +1,9 @@
 -- `prepared::said::outputs_in` meets its contract. The invariant: the outputs passed are made, with zeros behind them. Assumes nothing.
-use mathlib.Core.Path.{◌≡◌, ap, ◌∙◌}
-use Prim.Native.Nat.{min, ◌≤◌, ◌-◌}
-use native.Mathlib.Omega.{arith}
+use mathlib.Core.Path.{◌≡◌}
+use Prim.Native.Nat.{◌≤◌, ◌-◌}
 use Rattle.scan.specs.Set.{most_outputs, zero_output}
 use Rattle.prepared.specs.Filled.{filled}
 use Rattle.prepared.specs.Said.{output_in}
-use Rattle.prepared.proofs.FilledLaws.{filled_none, filled_more}
-use borrow.Author.Rules.{rules}
 use Rattle.prepared.proofs.said.outputs_in.Given as goal
 
 abbrev pub invariant-loop-j : goal.invariant-loop-j

@@ -1,6 +1,5 @@
 -- `prepared::said::read_in` meets its contract. Assumes nothing.
 use mathlib.Core.Path.{ap₂}
-use borrow.Author.Rules.{rules}
 use Rattle.prepared.proofs.said.read_in.Goals as goal
 
 pub returns : goal.returns

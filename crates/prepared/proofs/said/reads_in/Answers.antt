@@ -1,12 +1,11 @@
 -- `prepared::said::reads_in` meets its contract. The invariant: the read points passed are made, with zeros behind them. Assumes nothing.
 use mathlib.Core.Path.{◌≡◌, ap, ◌∙◌}
-use Prim.Native.Nat.{min, ◌≤◌, ◌-◌}
+use Prim.Native.Nat.{min}
 use native.Mathlib.Omega.{arith}
 use Rattle.scan.specs.Set.{most_reads, zero_read}
 use Rattle.prepared.specs.Filled.{filled}
 use Rattle.prepared.specs.Said.{read_in}
 use Rattle.prepared.proofs.FilledLaws.{filled_none, filled_more}
-use borrow.Author.Rules.{rules}
 use Rattle.prepared.proofs.said.reads_in.Goals as goal
 
 pub loop-k-init : goal.loop-k-init

@@ -3,7 +3,6 @@ use mathlib.Core.Path.{◌≡◌, ap, ◌∙◌}
 use Prim.Native.Nat.{ℕ}
 use Rattle.scan.specs.Set.{most_reads, most_outputs, most_constraints, zero_read, zero_output, zero_constraint}
 use Rattle.prepared.specs.Said.{byte_in, read_in, output_in, constraint_in, first_of, set_said}
-use borrow.Author.Rules.{rules}
 use Rattle.prepared.proofs.said.set_said.Goals as goal
 
 pub returns : goal.returns

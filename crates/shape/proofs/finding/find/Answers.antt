@@ -14,7 +14,6 @@ use Rattle.shape.specs.Spelling.{spelling}
 use Rattle.shape.specs.Finding.{find_padded, find_of}
 use Rattle.scan.proofs.ShapeLaws.{formed_counts}
 use Rattle.shape.proofs.FindingLaws.{find_bad, find_length, find_unspelt, find_spelt}
-use borrow.Author.Rules.{rules}
 use Rattle.shape.proofs.finding.find.Goals as goal
 use Rattle.shape.proofs.finding.find.Goals.{Else-not-is_length_ok, Else-not-well_formed}
 

@@ -3,7 +3,6 @@ use mathlib.Core.Path.{◌≡◌, ◌∙◌}
 use Rattle.scan.specs.Names.{first_read, first_output}
 use Rattle.shape.proofs.ShapeWayLaws.{first_reads, first_outputs}
 use Rattle.shape.proofs.FindingLaws.{find_read, find_output, find_none}
-use borrow.Author.Rules.{rules}
 use Rattle.shape.proofs.finding.find_padded.Goals as goal
 use Rattle.shape.proofs.finding.find_padded.Goals.{After-first_of-j, After-first_of-k}
 

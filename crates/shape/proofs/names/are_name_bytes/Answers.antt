@@ -1,11 +1,7 @@
 -- `shape::names::are_name_bytes` meets its contract. The loop's invariant: `ok` tells whether the bytes before k are name bytes. Assumes nothing.
-use Prim.Native.Nat.{ℕ, ◌-◌}
-use mathlib.Core.Bool.{Bool}
-use mathlib.Core.List.{List}
-use lib.ListN.{length, get_or}
-use Rattle.scan.specs.Names.{name_byte, all_name_bytes}
-use Rattle.words.proofs.LoopTurns.{Passed, passed_none, passed_one, passed_all}
-use borrow.Author.Rules.{rules}
+use lib.ListN.{length}
+use Rattle.scan.specs.Names.{all_name_bytes}
+use Rattle.words.proofs.LoopTurns.{passed_none, passed_one, passed_all}
 use Rattle.shape.proofs.names.are_name_bytes.Goals as goal
 use Rattle.shape.proofs.names.are_name_bytes.Invariants.{byte}
 

@@ -3,9 +3,8 @@ use Prim.Native.Nat.{ℕ, ◌-◌}
 use mathlib.Core.Bool.{Bool}
 use mathlib.Core.List.{List}
 use lib.ListN.{length, get_or}
-use Rattle.scan.specs.Names.{name_byte, all_name_bytes}
-use Rattle.words.proofs.LoopTurns.{Passed, passed_none, passed_one, passed_all}
-use borrow.Author.Rules.{rules}
+use Rattle.scan.specs.Names.{name_byte}
+use Rattle.words.proofs.LoopTurns.{Passed}
 use Rattle.shape.proofs.names.are_name_bytes.Given as goal
 
 -- byte k of a list is a name byte

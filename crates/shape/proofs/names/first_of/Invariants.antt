@@ -1,9 +1,7 @@
 -- `shape::names::first_of` meets its contract. The loop's invariant: none of the names before k is the name. Assumes nothing.
-use mathlib.Core.Path.{sym, ◌∙◌}
 use Prim.Native.Nat.{◌-◌}
-use Rattle.shape.specs.way.Names.{name_is, first_name}
-use Rattle.words.proofs.LoopTurns.{Missed, missed_none, missed_one, missed_here, missed_all}
-use borrow.Author.Rules.{rules}
+use Rattle.shape.specs.way.Names.{name_is}
+use Rattle.words.proofs.LoopTurns.{Missed}
 use Rattle.shape.proofs.names.first_of.Given as goal
 
 abbrev pub invariant-loop-k : goal.invariant-loop-k

@@ -1,15 +1,12 @@
 -- `shape::names::is_name` meets its contract. The loop's invariant: `ok` tells whether the first place is no zero and the places before k are right. Assumes nothing.
-use mathlib.Core.Path.{◌≡◌, refl, ap, ◌∙◌}
+use mathlib.Core.Path.{◌≡◌}
 use mathlib.Core.Bool.{not, ◌&&◌}
-use Prim.Native.Nat.{ℕ, ◌+◌, ◌-◌, ◌≤◌}
-use native.Mathlib.Omega.{arith}
-use lib.ListN.{length, get_or}
+use Prim.Native.Nat.{◌-◌, ◌≤◌}
+use lib.ListN.{get_or}
 use Rattle.words.specs.Loop.{all}
 use Rattle.scan.specs.Set.{name_places}
 use Rattle.scan.specs.Names.{zero_at}
-use Rattle.shape.specs.way.Names.{next_ok}
-use Rattle.shape.proofs.NamesWayLaws.{follows_ok, follows_none, follows_more, name_follows}
-use borrow.Author.Rules.{rules}
+use Rattle.shape.proofs.NamesWayLaws.{follows_ok}
 use Rattle.shape.proofs.names.is_name.Given as goal
 
 abbrev pub invariant-loop-k : goal.invariant-loop-k

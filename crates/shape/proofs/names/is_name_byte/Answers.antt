@@ -1,6 +1,5 @@
 -- `shape::names::is_name_byte` meets its contract. Assumes nothing.
 use Rattle.scan.specs.Names.{name_byte}
-use borrow.Author.Rules.{rules}
 use Rattle.shape.proofs.names.is_name_byte.Goals as goal
 
 pub returns : goal.returns

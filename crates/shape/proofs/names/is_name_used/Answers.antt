@@ -5,7 +5,6 @@ use mathlib.Core.List.{List}
 use Prim.Native.Nat.{ℕ}
 use lib.Dec.{ltb}
 use Rattle.shape.specs.way.Names.{first_name, name_used}
-use borrow.Author.Rules.{rules}
 use Rattle.shape.proofs.names.is_name_used.Goals as goal
 
 -- each test is of the name found among as many as there are

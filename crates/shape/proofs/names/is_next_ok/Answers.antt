@@ -3,7 +3,6 @@ use mathlib.Core.Path.{ap, ◌∙◌}
 use mathlib.Core.Bool.{Bool, not, ◌&&◌, ◌||◌}
 use lib.Dec.{eqb}
 use Rattle.shape.specs.way.Names.{next_ok}
-use borrow.Author.Rules.{rules}
 use Rattle.shape.proofs.names.is_next_ok.Goals as goal
 
 pub returns : goal.returns

@@ -1,10 +1,8 @@
 -- `shape::names::is_same_name` meets its contract. The loop's invariant: `same` tells whether the bytes before k agree. Assumes nothing.
 use mathlib.Core.Path.{refl}
-use Prim.Native.Nat.{◌-◌}
 use Rattle.scan.specs.Set.{name_places}
 use Rattle.scan.specs.Names.{same_at, same_name}
-use Rattle.words.proofs.LoopTurns.{Passed, passed_none, passed_one, passed_all}
-use borrow.Author.Rules.{rules}
+use Rattle.words.proofs.LoopTurns.{passed_none, passed_one, passed_all}
 use Rattle.shape.proofs.names.is_same_name.Goals as goal
 
 pub loop-k-init : goal.loop-k-init

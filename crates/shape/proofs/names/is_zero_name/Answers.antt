@@ -1,10 +1,9 @@
 -- `shape::names::is_zero_name` meets its contract. The loop's invariant: `ok` tells whether the bytes before k are zero. Assumes nothing.
 use mathlib.Core.Path.{◌≡◌, refl}
-use Prim.Native.Nat.{◌-◌}
 use lib.ListN.{length}
 use Rattle.scan.specs.Set.{name_places}
 use Rattle.scan.specs.Names.{zero_at}
-use Rattle.words.proofs.LoopTurns.{Passed, passed_none, passed_one, passed_all}
+use Rattle.words.proofs.LoopTurns.{passed_none, passed_one, passed_all}
 use Rattle.shape.proofs.NamesWayLaws.{name_zeros}
 use borrow.Author.Rules.{rules}
 use Rattle.shape.proofs.names.is_zero_name.Goals as goal

@@ -1,12 +1,8 @@
 -- `shape::names::is_zero_name` meets its contract. The loop's invariant: `ok` tells whether the bytes before k are zero. Assumes nothing.
-use mathlib.Core.Path.{◌≡◌, refl}
 use Prim.Native.Nat.{◌-◌}
-use lib.ListN.{length}
 use Rattle.scan.specs.Set.{name_places}
 use Rattle.scan.specs.Names.{zero_at}
-use Rattle.words.proofs.LoopTurns.{Passed, passed_none, passed_one, passed_all}
-use Rattle.shape.proofs.NamesWayLaws.{name_zeros}
-use borrow.Author.Rules.{rules}
+use Rattle.words.proofs.LoopTurns.{Passed}
 use Rattle.shape.proofs.names.is_zero_name.Given as goal
 
 abbrev pub invariant-loop-k : goal.invariant-loop-k

@@ -2,10 +2,9 @@
 use borrow.Author.Rules.{rules}
 use borrow.Author.Tests.{eq-eqb, ne_eqb}
 use mathlib.Core.Path.{◌≡◌}
-use Prim.Native.Nat.{◌-◌}
 use native.Mathlib.Omega.{arith}
 use lib.ListN.{length}
-use Rattle.words.proofs.LoopTurns.{Missed, missed_none, missed_one, missed_here, missed_all}
+use Rattle.words.proofs.LoopTurns.{missed_none, missed_one, missed_here, missed_all}
 use Rattle.scan.specs.Set.{name_places}
 use Rattle.scan.specs.Names.{zero_at}
 use Rattle.scan.proofs.NamesLaws.{name_ends}

@@ -1,14 +1,8 @@
 -- `shape::names::name_length` meets its contract. The loop's invariant: none of the name's first k bytes is zero. Assumes nothing.
-use borrow.Author.Rules.{rules}
-use borrow.Author.Tests.{eq-eqb, ne_eqb}
-use mathlib.Core.Path.{◌≡◌}
 use Prim.Native.Nat.{◌-◌}
-use native.Mathlib.Omega.{arith}
-use lib.ListN.{length}
-use Rattle.words.proofs.LoopTurns.{Missed, missed_none, missed_one, missed_here, missed_all}
+use Rattle.words.proofs.LoopTurns.{Missed}
 use Rattle.scan.specs.Set.{name_places}
 use Rattle.scan.specs.Names.{zero_at}
-use Rattle.scan.proofs.NamesLaws.{name_ends}
 use Rattle.shape.proofs.names.name_length.Given as goal
 
 abbrev pub invariant-loop-k : goal.invariant-loop-k

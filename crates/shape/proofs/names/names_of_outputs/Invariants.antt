@@ -1,10 +1,7 @@
 -- `shape::names::names_of_outputs` meets its contract. The loop's invariant: the names before k are in place. Assumes nothing.
-use mathlib.Core.Path.{refl}
 use Prim.Native.Nat.{ℕ, ◌-◌}
-use lib.ListN.{replicate}
-use Rattle.scan.specs.Set.{most_outputs, output_point, zero_name}
-use Rattle.shape.proofs.NamesWayLaws.{Placed, placed_none, placed_one, placed_all}
-use borrow.Author.Rules.{rules}
+use Rattle.scan.specs.Set.{most_outputs, output_point}
+use Rattle.shape.proofs.NamesWayLaws.{Placed}
 use Rattle.shape.proofs.names.names_of_outputs.Given as goal
 
 abbrev pub invariant-loop-k : goal.invariant-loop-k

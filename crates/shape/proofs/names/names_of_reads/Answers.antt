@@ -1,10 +1,9 @@
 -- `shape::names::names_of_reads` meets its contract. The loop's invariant: the names before k are in place. Assumes nothing.
 use mathlib.Core.Path.{refl}
-use Prim.Native.Nat.{ℕ, ◌-◌}
+use Prim.Native.Nat.{ℕ}
 use lib.ListN.{replicate}
 use Rattle.scan.specs.Set.{most_reads, read_point, zero_name}
-use Rattle.shape.proofs.NamesWayLaws.{Placed, placed_none, placed_one, placed_all}
-use borrow.Author.Rules.{rules}
+use Rattle.shape.proofs.NamesWayLaws.{placed_none, placed_one, placed_all}
 use Rattle.shape.proofs.names.names_of_reads.Goals as goal
 
 pub loop-k-init : goal.loop-k-init

@@ -1,7 +1,7 @@
 -- `shape::names::pad` meets its contract. The loop's invariant: the bytes before k are in place, and the other places are zero. Assumes nothing.
 use mathlib.Core.Path.{◌≡◌, refl, ap, ◌∙◌}
 use mathlib.Core.List.{List, ◌++◌}
-use Prim.Native.Nat.{ℕ, ◌-◌, ◌≤◌}
+use Prim.Native.Nat.{ℕ, ◌-◌}
 use native.Mathlib.Omega.{arith}
 use lib.ListN.{length, get_or, take, set, replicate}
 use lib.Seq.{take-length}

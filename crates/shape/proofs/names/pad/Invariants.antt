@@ -1,13 +1,9 @@
 -- `shape::names::pad` meets its contract. The loop's invariant: the bytes before k are in place, and the other places are zero. Assumes nothing.
-use mathlib.Core.Path.{◌≡◌, refl, ap, ◌∙◌}
-use mathlib.Core.List.{List, ◌++◌}
-use Prim.Native.Nat.{ℕ, ◌-◌, ◌≤◌}
-use native.Mathlib.Omega.{arith}
-use lib.ListN.{length, get_or, take, set, replicate}
-use lib.Seq.{take-length}
+use mathlib.Core.Path.{◌≡◌}
+use mathlib.Core.List.{◌++◌}
+use Prim.Native.Nat.{◌-◌, ◌≤◌}
+use lib.ListN.{length, take, replicate}
 use Rattle.scan.specs.Set.{name_places}
-use Rattle.shape.proofs.NamesWayLaws.{pad_one}
-use borrow.Author.Rules.{rules}
 use Rattle.shape.proofs.names.pad.Given as goal
 
 abbrev pub invariant-loop-k : goal.invariant-loop-k

@@ -6,7 +6,6 @@ use Prim.Native.Nat.{ℕ, ◌≤◌}
 use lib.ListN.{length}
 use Rattle.scan.specs.Set.{name_places}
 use Rattle.shape.proofs.SpellingLaws.{length_right, spell_length, spell_strange, spell_name}
-use borrow.Author.Rules.{rules}
 use Rattle.shape.proofs.names.spell.Goals as goal
 use Rattle.shape.proofs.names.spell.Goals.{Then-is_length_ok}
 

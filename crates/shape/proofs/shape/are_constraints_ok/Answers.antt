@@ -1,9 +1,7 @@
 -- `shape::shape::are_constraints_ok` meets its contract. The loop's invariant: `ok` tells whether the places before i are right. Assumes nothing.
-use Prim.Native.Nat.{◌-◌}
 use Rattle.scan.specs.Set.{most_constraints, constraint}
 use Rattle.scan.specs.Shape.{constraint_place}
-use Rattle.words.proofs.LoopTurns.{Passed, passed_none, passed_one, passed_all}
-use borrow.Author.Rules.{rules}
+use Rattle.words.proofs.LoopTurns.{passed_none, passed_one, passed_all}
 use Rattle.shape.proofs.shape.are_constraints_ok.Goals as goal
 
 pub loop-i-init : goal.loop-i-init

@@ -1,6 +1,5 @@
 -- `shape::shape::are_counts_ok` meets its contract. Assumes nothing.
 use Rattle.scan.proofs.ShapeLaws.{counts_rest, many_reads, many_outputs}
-use borrow.Author.Rules.{rules}
 use Rattle.shape.proofs.shape.are_counts_ok.Goals as goal
 
 pub returns-then-n-le-MOST_OUTPUTS : goal.returns-then-n-le-MOST_OUTPUTS

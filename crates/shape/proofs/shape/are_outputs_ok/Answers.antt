@@ -1,9 +1,7 @@
 -- `shape::shape::are_outputs_ok` meets its contract. The loop's invariant: `ok` tells whether the places before j are right. Assumes nothing.
-use Prim.Native.Nat.{◌-◌}
 use Rattle.scan.specs.Set.{most_outputs}
 use Rattle.shape.specs.way.Shape.{output_place_by}
-use Rattle.words.proofs.LoopTurns.{Passed, passed_none, passed_one, passed_all}
-use borrow.Author.Rules.{rules}
+use Rattle.words.proofs.LoopTurns.{passed_none, passed_one, passed_all}
 use Rattle.shape.proofs.shape.are_outputs_ok.Goals as goal
 
 pub loop-j-init : goal.loop-j-init

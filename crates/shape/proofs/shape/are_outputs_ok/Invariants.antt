@@ -2,8 +2,7 @@
 use Prim.Native.Nat.{◌-◌}
 use Rattle.scan.specs.Set.{most_outputs}
 use Rattle.shape.specs.way.Shape.{output_place_by}
-use Rattle.words.proofs.LoopTurns.{Passed, passed_none, passed_one, passed_all}
-use borrow.Author.Rules.{rules}
+use Rattle.words.proofs.LoopTurns.{Passed}
 use Rattle.shape.proofs.shape.are_outputs_ok.Given as goal
 
 abbrev pub invariant-loop-j : goal.invariant-loop-j

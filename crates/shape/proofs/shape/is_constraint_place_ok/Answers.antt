@@ -3,7 +3,6 @@ use mathlib.Core.Path.{◌∙◌}
 use Rattle.words.specs.Loop.{every}
 use Rattle.words.proofs.BoolLaws.{cond_true, cond_false}
 use Rattle.scan.specs.Shape.{constraint_tests, constraint_zero}
-use borrow.Author.Rules.{rules}
 use Rattle.shape.proofs.shape.is_constraint_place_ok.Goals as goal
 
 pub returns-then-used : goal.returns-then-used

@@ -1,6 +1,5 @@
 -- `shape::shape::is_kind_ok` meets its contract. Assumes nothing.
 use Rattle.shape.proofs.ShapeWayLaws.{by_sensor, by_output, by_past}
-use borrow.Author.Rules.{rules}
 use Rattle.shape.proofs.shape.is_kind_ok.Goals as goal
 
 pub returns-in-Sensor : goal.returns-in-Sensor

@@ -7,7 +7,6 @@ use borrow.Author.Tests.{lt-ltb, le-ltb}
 use Rattle.words.proofs.BoolLaws.{cond_true, cond_false}
 use Rattle.scan.specs.Names.{name_zero}
 use Rattle.shape.specs.way.Shape.{output_by}
-use borrow.Author.Rules.{rules}
 use Rattle.shape.proofs.shape.is_output_place_ok.Goals as goal
 
 pub returns-then-j-n : goal.returns-then-j-n

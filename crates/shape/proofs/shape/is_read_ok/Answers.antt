@@ -4,7 +4,6 @@ use Prim.Native.Nat.{ℕ}
 use lib.Dec.{eqb}
 use Rattle.shape.specs.way.Shape.{read_by}
 use Rattle.words.proofs.BoolLaws.{three}
-use borrow.Author.Rules.{rules}
 use Rattle.shape.proofs.shape.is_read_ok.Goals as goal
 
 pub returns : goal.returns

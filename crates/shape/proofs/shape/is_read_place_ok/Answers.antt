@@ -5,7 +5,6 @@ use borrow.Author.Tests.{lt-ltb, le-ltb}
 use Rattle.words.proofs.BoolLaws.{cond_true, cond_false}
 use Rattle.shape.specs.way.Shape.{read_by}
 use Rattle.scan.specs.Shape.{read_zero}
-use borrow.Author.Rules.{rules}
 use Rattle.shape.proofs.shape.is_read_place_ok.Goals as goal
 
 pub returns-then-k-r : goal.returns-then-k-r

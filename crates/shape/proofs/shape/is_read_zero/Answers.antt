@@ -1,7 +1,6 @@
 -- `shape::shape::is_read_zero` meets its contract. Assumes nothing.
 use Rattle.scan.specs.Shape.{read_zero}
 use Rattle.words.proofs.BoolLaws.{two}
-use borrow.Author.Rules.{rules}
 use Rattle.shape.proofs.shape.is_read_zero.Goals as goal
 
 pub returns : goal.returns

@@ -1,12 +1,9 @@
 -- `shape::shape::sensors_of` meets its contract. The invariant: `w` has the sensors among the read points passed. Assumes nothing.
-use mathlib.Core.Path.{◌≡◌, ap, ◌∙◌}
+use mathlib.Core.Path.{◌≡◌}
 use Prim.Native.Nat.{ℕ, ◌≤◌, ◌-◌}
-use native.Mathlib.Omega.{arith}
 use Rattle.words.specs.Loop.{word}
-use Rattle.words.proofs.LoopTurns.{word_none, word_turn}
 use Rattle.scan.specs.Set.{most_reads, read_point}
 use Rattle.scan.specs.Shape.{is_sensor}
-use borrow.Author.Rules.{rules}
 use Rattle.shape.proofs.shape.sensors_of.Given as goal
 
 abbrev pub invariant-loop-k : goal.invariant-loop-k

@@ -9,7 +9,6 @@ use Rattle.scan.specs.Shape.{count_tests}
 use Rattle.words.proofs.ListLaws.{mapped_long}
 use Rattle.scan.proofs.ShapeLaws.{counts_told_law}
 use Rattle.shape.proofs.ShapeWayLaws.{bad_counts, set_tests_law, by_outputs}
-use borrow.Author.Rules.{rules}
 use Rattle.shape.proofs.shape.well_formed.Goals as goal
 use Rattle.shape.proofs.shape.well_formed.Goals.{Start, Then-are_counts_ok}
 

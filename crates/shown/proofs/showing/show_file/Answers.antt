@@ -6,7 +6,6 @@ use Rattle.line.specs.declared.printer.Line.TheVariants.{Load}
 use Rattle.line.specs.Line.{line_answer}
 use Rattle.shown.specs.Shown.{length_put}
 use Rattle.shown.proofs.ShownLaws.{length_told, after_told}
-use borrow.Author.Rules.{rules}
 use Rattle.shown.proofs.showing.show_file.Goals as goal
 
 pub returns-in-Loaded : goal.returns-in-Loaded

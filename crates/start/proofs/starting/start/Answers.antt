@@ -7,7 +7,6 @@ use Rattle.verdict.specs.declared.verdict.Verdict.{Verdict}
 use Rattle.start.specs.declared.starting.Started.{Started}
 use Rattle.verdict.specs.Judge.{judge_of}
 use Rattle.start.specs.Start.{start_state, start_of}
-use borrow.Author.Rules.{rules}
 use Rattle.start.proofs.starting.start.Goals as goal
 
 started : (s : Set) (room : ℕ) (v : Verdict) (st : State) → v ≡ judge_of s room → st ≡ start_state s v → ◌≡◌ {A = Started} (record { verdict = v; state = st }) (start_of s room)

@@ -1,15 +1,10 @@
 -- `start::starting::state_of` meets its contract. Assumes nothing.
 use mathlib.Core.Path.{◌≡◌, refl, sym, ap, ◌∙◌}
-use mathlib.Core.List.{[], ◌∷◌}
-use denote.Enum.Declared.{tag_of}
-use types.Run.{OneOf, miss}
 use Rattle.scan.specs.declared.set.Set.{Set}
 use Rattle.scan.specs.Set.{zero_set, fresh_state, zero_state}
 use Rattle.verdict.specs.declared.verdict.Verdict.{Verdict}
-use Rattle.verdict.specs.contracts.verdict.Verdict.{the_type}
 use Rattle.verdict.specs.declared.verdict.Verdict.TheVariants.{Accepted, BadSet, ShortScratch, NoVector, Clash, NoEnd}
 use Rattle.start.specs.Start.{start_state}
-use borrow.Author.Rules.{rules}
 use Rattle.start.proofs.starting.state_of.Goals as goal
 
 -- acceptance leads to a fresh state

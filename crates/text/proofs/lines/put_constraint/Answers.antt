@@ -1,5 +1,4 @@
 -- `text::lines::put_constraint` meets its contract. Assumes nothing.
-use borrow.Author.Rules.{rules}
 use mathlib.Core.List.{◌++◌}
 use Rattle.text.specs.Grammar.{never_word}
 use Rattle.text.specs.way.Place.{read_literals_by, output_literals_by}

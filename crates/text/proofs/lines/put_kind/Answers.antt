@@ -1,5 +1,4 @@
 -- `text::lines::put_kind` meets its contract. Assumes nothing.
-use borrow.Author.Rules.{rules}
 use mathlib.Core.Path.{sym, ap}
 use mathlib.Core.List.{[], ◌∷◌}
 use Rattle.scan.specs.declared.set.Kind.{Kind}

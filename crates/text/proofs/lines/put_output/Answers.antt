@@ -1,5 +1,4 @@
 -- `text::lines::put_output` meets its contract. Assumes nothing.
-use borrow.Author.Rules.{rules}
 use mathlib.Core.List.{[], ◌∷◌}
 use Rattle.scan.specs.Names.{name_bytes}
 use Rattle.text.specs.Grammar.{output_word}

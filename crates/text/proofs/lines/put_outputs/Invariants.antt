@@ -1,16 +1,9 @@
 -- `text::lines::put_outputs` meets its contract. The loop's invariant: the lines of the first j outputs are put. Assumes nothing.
-use borrow.Author.Rules.{rules}
-use mathlib.Core.Path.{◌≡◌}
 use mathlib.Core.List.{map}
-use Prim.Native.Nat.{◌-◌, ◌≤◌}
-use native.Mathlib.Omega.{arith}
-use lib.ListN.{length, get_or, take}
-use Rattle.words.proofs.ListLaws.{mapped_long}
-use Rattle.words.proofs.LoopTurns.{Grows}
-use Rattle.scan.specs.Set.{most_outputs, no_output}
+use Prim.Native.Nat.{◌-◌}
+use lib.ListN.{take}
 use Rattle.text.specs.Text.{output_line, lines_text}
-use Rattle.text.specs.way.Place.{line_bytes}
-use Rattle.text.proofs.PlaceLaws.{Goes, goes_none, goes_one, goes_all, goes_kept, lines_grow}
+use Rattle.text.proofs.PlaceLaws.{Goes}
 use Rattle.text.proofs.lines.put_outputs.Given as goal
 
 abbrev pub invariant-loop-j : goal.invariant-loop-j

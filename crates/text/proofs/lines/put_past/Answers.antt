@@ -1,5 +1,4 @@
 -- `text::lines::put_past` meets its contract. Assumes nothing.
-use borrow.Author.Rules.{rules}
 use mathlib.Core.List.{[], ◌∷◌}
 use lib.ListN.{get_or}
 use Rattle.scan.specs.Names.{name_bytes}

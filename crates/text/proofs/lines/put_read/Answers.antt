@@ -1,5 +1,4 @@
 -- `text::lines::put_read` meets its contract. Assumes nothing.
-use borrow.Author.Rules.{rules}
 use mathlib.Core.List.{[], ◌∷◌}
 use Rattle.text.specs.Text.{parted}
 use Rattle.text.specs.way.Place.{read_line_by}

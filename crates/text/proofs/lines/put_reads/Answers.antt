@@ -2,7 +2,7 @@
 use borrow.Author.Rules.{rules}
 use mathlib.Core.Path.{◌≡◌}
 use mathlib.Core.List.{map}
-use Prim.Native.Nat.{◌-◌, ◌≤◌}
+use Prim.Native.Nat.{◌≤◌}
 use native.Mathlib.Omega.{arith}
 use lib.ListN.{length, get_or, take}
 use Rattle.words.proofs.ListLaws.{mapped_long}
@@ -10,7 +10,7 @@ use Rattle.words.proofs.LoopTurns.{Grows}
 use Rattle.scan.specs.Set.{most_reads, no_read}
 use Rattle.text.specs.Text.{lines_text}
 use Rattle.text.specs.way.Place.{line_bytes, read_line_by}
-use Rattle.text.proofs.PlaceLaws.{Goes, goes_none, goes_one, goes_all, goes_kept, lines_grow}
+use Rattle.text.proofs.PlaceLaws.{goes_none, goes_one, goes_all, goes_kept, lines_grow}
 use Rattle.text.proofs.lines.put_reads.Goals as goal
 use Rattle.text.proofs.lines.put_reads.Goals.{Start}
 

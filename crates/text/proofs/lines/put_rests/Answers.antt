@@ -1,13 +1,12 @@
 -- `text::lines::put_rests` meets its contract. The loop's invariant: the lines of those of the first k outputs that are on at rest are put. Assumes nothing.
-use borrow.Author.Rules.{rules}
-use Prim.Native.Nat.{◌-◌, ◌<◌}
+use Prim.Native.Nat.{◌<◌}
 use native.Mathlib.Omega.{arith}
 use Rattle.words.specs.Loop.{joined}
 use Rattle.words.proofs.LoopTurns.{Grows}
 use Rattle.scan.specs.Set.{most_outputs}
 use Rattle.text.specs.Text.{lines_text}
 use Rattle.text.specs.way.Place.{rest_line_by}
-use Rattle.text.proofs.PlaceLaws.{within_same, Goes, goes_none, goes_one, goes_all, goes_kept, joined_lines_grow}
+use Rattle.text.proofs.PlaceLaws.{within_same, goes_none, goes_one, goes_all, goes_kept, joined_lines_grow}
 use Rattle.text.proofs.LinesLaws.{rest_turn}
 use Rattle.text.proofs.lines.put_rests.Goals as goal
 use Rattle.text.proofs.lines.put_rests.Goals.{Start}

@@ -1,5 +1,4 @@
 -- `text::literal::put_and` meets its contract. Assumes nothing.
-use borrow.Author.Rules.{rules}
 use mathlib.Core.List.{[], ◌∷◌}
 use Rattle.words.proofs.BoolLaws.{cond_true, cond_false}
 use Rattle.text.specs.Grammar.{and_word}

@@ -1,14 +1,10 @@
 -- `text::literal::put_literals` meets its contract. The loop's invariant: the literals of the first k points are put, and `others` says whether there are any before.
-use borrow.Author.Rules.{rules}
-use mathlib.Core.Path.{◌≡◌}
-use mathlib.Core.Bool.{◌||◌}
-use Prim.Native.Nat.{◌-◌}
 use lib.ListN.{length}
 use Rattle.words.specs.Loop.{joined}
 use Rattle.words.proofs.LoopTurns.{Grows}
-use Rattle.text.specs.Text.{named_below, spaced_words}
+use Rattle.text.specs.Text.{spaced_words}
 use Rattle.text.specs.way.Place.{literal_at}
-use Rattle.text.proofs.PlaceLaws.{words_same, Goes, goes_none, goes_one, goes_all, goes_kept, words_grow}
+use Rattle.text.proofs.PlaceLaws.{words_same, goes_none, goes_one, goes_all, goes_kept, words_grow}
 use Rattle.text.proofs.LiteralLaws.{others_none, others_more, literal_turn}
 use Rattle.text.proofs.literal.put_literals.Goals as goal
 use Rattle.text.proofs.literal.put_literals.Goals.{Start}

@@ -1,5 +1,4 @@
 -- `text::literal::put_read_literals` meets its contract. Assumes nothing.
-use borrow.Author.Rules.{rules}
 use mathlib.Core.Path.{ap}
 use mathlib.Core.Bool.{false}
 use Prim.Native.Nat.{ℕ}

@@ -1,6 +1,5 @@
 -- `text::place::put_byte` meets its contract: the byte is stored where the buffer has the place. Assumes nothing.
 use mathlib.Core.Path.{sym, refl}
-use borrow.Author.Rules.{rules}
 use native.Mathlib.Omega.{arith}
 use lib.Seq.{set_out}
 use Rattle.text.proofs.PlaceLaws.{within_one}

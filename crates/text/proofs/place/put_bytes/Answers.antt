@@ -1,9 +1,6 @@
 -- `text::place::put_bytes` meets its contract. The loop's invariant: the first k bytes are put. Assumes nothing.
-use borrow.Author.Rules.{rules}
-use Prim.Native.Nat.{◌-◌}
-use lib.ListN.{length, take}
 use lib.Seq.{take-length}
-use Rattle.text.proofs.PlaceLaws.{within_same, Goes, goes_none, goes_one, goes_all, goes_kept, bytes_grow}
+use Rattle.text.proofs.PlaceLaws.{within_same, goes_none, goes_one, goes_all, goes_kept, bytes_grow}
 use Rattle.text.proofs.place.put_bytes.Goals as goal
 
 pub loop-k-init : goal.loop-k-init

@@ -1,9 +1,7 @@
 -- `text::place::put_bytes` meets its contract. The loop's invariant: the first k bytes are put. Assumes nothing.
-use borrow.Author.Rules.{rules}
 use Prim.Native.Nat.{◌-◌}
 use lib.ListN.{length, take}
-use lib.Seq.{take-length}
-use Rattle.text.proofs.PlaceLaws.{within_same, Goes, goes_none, goes_one, goes_all, goes_kept, bytes_grow}
+use Rattle.text.proofs.PlaceLaws.{Goes}
 use Rattle.text.proofs.place.put_bytes.Given as goal
 
 abbrev pub invariant-loop-k : goal.invariant-loop-k

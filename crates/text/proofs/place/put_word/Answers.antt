@@ -1,10 +1,5 @@
 -- `text::place::put_word` meets its contract. Assumes nothing.
-use borrow.Author.Rules.{rules}
 use Rattle.text.proofs.PlaceLaws.{word_put}
-use Rattle.text.proofs.place.put_word.Reads as reads
-use Rattle.text.proofs.place.put_word.Lts as lts
-use Rattle.text.proofs.place.put_byte.Reads as put-byte-reads
-use Rattle.text.proofs.place.put_bytes.Reads as put-bytes-reads
 use Rattle.text.proofs.place.put_word.Goals as goal
 
 -- src/place.rt:50:1

@@ -1,5 +1,4 @@
 -- `text::printing::text_length` meets its contract: the place behind the text. Assumes nothing.
-use borrow.Author.Rules.{rules}
 use mathlib.Core.Path.{◌∙◌}
 use native.Mathlib.Nat.{zero-add}
 use native.Mathlib.Omega.{arith}

@@ -1,5 +1,5 @@
 -- `verdict::marks::first_vectors` meets its contract. Assumes nothing.
-use mathlib.Core.Path.{◌≡◌, sym, ap, ◌∙◌}
+use mathlib.Core.Path.{◌≡◌, ap, ◌∙◌}
 use Prim.Native.Nat.{ℕ, ◌-◌, ◌*◌, ◌%◌, ◌^◌, ◌≤◌, ◌<◌}
 use native.Mathlib.Omega.{arith}
 use lib.Pow.{pow_mono}
@@ -8,7 +8,6 @@ use Rattle.words.specs.Word.{low}
 use Rattle.words.proofs.ShiftLaws.{one_shl, one_shl_pos, one_shl_sub}
 use Rattle.words.proofs.BoolLaws.{cond_true, cond_false}
 use Rattle.verdict.specs.way.Marks.{first_vectors}
-use borrow.Author.Rules.{rules}
 use Rattle.verdict.proofs.marks.first_vectors.Goals as goal
 
 module _ (n : ℕ) where

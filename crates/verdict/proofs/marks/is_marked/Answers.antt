@@ -8,7 +8,6 @@ use lib.ListN.{length, get_or, get_or-eq_default}
 use Rattle.words.specs.Word.{bit}
 use Rattle.words.proofs.BitLaws.{bit_zero}
 use Rattle.verdict.specs.way.Marks.{marked}
-use borrow.Author.Rules.{rules}
 use Rattle.verdict.proofs.marks.is_marked.Goals as goal
 
 module _ (marks : List ℕ) (v : ℕ) where

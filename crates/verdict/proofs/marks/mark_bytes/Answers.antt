@@ -1,8 +1,8 @@
 -- `verdict::marks::mark_bytes` meets its contract. The invariant: the bytes passed have the safe vectors of theirs, and `any` tells whether there is one.
 use mathlib.Core.Path.{◌≡◌, refl, sym, ap, ◌∙◌}
-use mathlib.Core.Bool.{Bool, not}
+use mathlib.Core.Bool.{not}
 use mathlib.Core.List.{List, ◌++◌, append-nil}
-use Prim.Native.Nat.{ℕ, ◌≤◌, ◌-◌}
+use Prim.Native.Nat.{ℕ}
 use native.Mathlib.Omega.{arith}
 use lib.Dec.{eqb}
 use lib.ListN.{length, set, drop, length-set}
@@ -13,7 +13,6 @@ use Rattle.words.proofs.LoopTurns.{some_none, some_step}
 use Rattle.scan.specs.way.Eight.{safe_byte}
 use Rattle.scan.proofs.EightLaws.{safe_byte_le}
 use Rattle.verdict.specs.way.Marks.{has_mark}
-use borrow.Author.Rules.{rules}
 use Rattle.verdict.proofs.marks.mark_bytes.Goals as goal
 use Rattle.verdict.proofs.marks.mark_bytes.Goals.{Start}
 
@@ -57,6 +56,9 @@ pub returns : goal.returns
 returns c =
     let l = c in
     let s = l in
-    let e : l.loop-b.b ≡ length s.args.marks.now = omega arith in record { value = l.loop-b.invariant.2 ∙ ap (λ (n : ℕ). some n (has_mark (byte (goal.at.returns c).Start))) e; marks_after = l.loop-b.invariant.3 ∙ ap (λ (n : ℕ). listed n (byte (goal.at.returns c).Start) ++ drop n s.args.marks.now) e
+    let e : l.loop-b.b ≡ length s.args.marks.now = omega arith in record {
+      value = l.loop-b.invariant.2 ∙ ap (λ (n : ℕ). some n (has_mark (byte (goal.at.returns c).Start))) e;
+      marks_after = l.loop-b.invariant.3 ∙ ap (λ (n : ℕ). listed n (byte (goal.at.returns c).Start) ++ drop n s.args.marks.now) e
           ∙ ap (λ (r : List ℕ). listed (length s.args.marks.now) (byte (goal.at.returns c).Start) ++ r) (drop-length s.args.marks.now)
-          ∙ append-nil _ }
+          ∙ append-nil _;
+    }

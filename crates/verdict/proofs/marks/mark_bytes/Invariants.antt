@@ -1,20 +1,12 @@
 -- `verdict::marks::mark_bytes` meets its contract. The invariant: the bytes passed have the safe vectors of theirs, and `any` tells whether there is one.
 -- Assumes nothing.
-use mathlib.Core.Path.{◌≡◌, refl, sym, ap, ◌∙◌}
-use mathlib.Core.Bool.{Bool, not}
-use mathlib.Core.List.{List, ◌++◌, append-nil}
-use Prim.Native.Nat.{ℕ, ◌≤◌, ◌-◌}
-use native.Mathlib.Omega.{arith}
-use lib.Dec.{eqb}
-use lib.ListN.{length, set, drop, length-set}
-use lib.Seq.{drop-length}
+use mathlib.Core.Path.{◌≡◌}
+use mathlib.Core.List.{◌++◌}
+use Prim.Native.Nat.{◌≤◌, ◌-◌}
+use lib.ListN.{length, drop}
 use Rattle.words.specs.Loop.{some, listed}
-use Rattle.words.proofs.LoopLaws.{listed_none, listed_store}
-use Rattle.words.proofs.LoopTurns.{some_none, some_step}
 use Rattle.scan.specs.way.Eight.{safe_byte}
-use Rattle.scan.proofs.EightLaws.{safe_byte_le}
 use Rattle.verdict.specs.way.Marks.{has_mark}
-use borrow.Author.Rules.{rules}
 use Rattle.verdict.proofs.marks.mark_bytes.Given as goal
 
 abbrev pub invariant-loop-b : goal.invariant-loop-b

@@ -10,7 +10,6 @@ use Rattle.scan.specs.way.Eight.{low_held, eight_of, safe_byte}
 use Rattle.verdict.specs.way.Marks.{first_vectors, has_mark}
 use Rattle.verdict.proofs.JudgeLaws.{scratch_eighth, scratch_mono}
 use Rattle.verdict.proofs.MarksLaws.{bytes_are, some_safe, held_le}
-use borrow.Author.Rules.{rules}
 use Rattle.verdict.proofs.marks.mark_safe.Goals as goal
 use Rattle.verdict.proofs.marks.mark_safe.Goals.{After-first_vectors}
 
@@ -43,6 +42,9 @@ returns c =
     let m = c in
     let v = m in
     let s = v in
-    let any : m.mark_bytes.result ≡ some (length s.args.marks.now) (has_mark (byte (goal.at.returns c).After-first_vectors)) = m.mark_bytes.ensures.value in record { value = any ∙ ap (λ (k : ℕ). some k (has_mark (byte (goal.at.returns c).After-first_vectors))) s.requires.1
-          ∙ some_safe s.args.n s.args.plain.now s.args.named.now s.args.count _ (eight-told (goal.at.returns c).After-first_vectors) s.args.f0 s.args.f1 (held (goal.at.returns c).After-first_vectors) (held-told (goal.at.returns c).After-first_vectors); marks_after = m.mark_bytes.ensures.marks_after ∙ ap (λ (k : ℕ). listed k (byte (goal.at.returns c).After-first_vectors)) s.requires.1
-          ∙ bytes_are s.args.n s.args.plain.now s.args.named.now s.args.count _ (eight-told (goal.at.returns c).After-first_vectors) s.args.f0 s.args.f1 (held (goal.at.returns c).After-first_vectors) (held-told (goal.at.returns c).After-first_vectors) }
+    let any : m.mark_bytes.result ≡ some (length s.args.marks.now) (has_mark (byte (goal.at.returns c).After-first_vectors)) = m.mark_bytes.ensures.value in record {
+      value = any ∙ ap (λ (k : ℕ). some k (has_mark (byte (goal.at.returns c).After-first_vectors))) s.requires.1
+          ∙ some_safe s.args.n s.args.plain.now s.args.named.now s.args.count _ (eight-told (goal.at.returns c).After-first_vectors) s.args.f0 s.args.f1 (held (goal.at.returns c).After-first_vectors) (held-told (goal.at.returns c).After-first_vectors);
+      marks_after = m.mark_bytes.ensures.marks_after ∙ ap (λ (k : ℕ). listed k (byte (goal.at.returns c).After-first_vectors)) s.requires.1
+          ∙ bytes_are s.args.n s.args.plain.now s.args.named.now s.args.count _ (eight-told (goal.at.returns c).After-first_vectors) s.args.f0 s.args.f1 (held (goal.at.returns c).After-first_vectors) (held-told (goal.at.returns c).After-first_vectors);
+    }

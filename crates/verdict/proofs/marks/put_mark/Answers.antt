@@ -1,5 +1,5 @@
 -- `verdict::marks::put_mark` meets its contract: a store past the end of a list leaves it. Assumes nothing.
-use mathlib.Core.Path.{◌≡◌, sym, ap, ◌∙◌}
+use mathlib.Core.Path.{◌≡◌, sym, ap}
 use mathlib.Core.List.{List}
 use Prim.Native.Nat.{ℕ, ◌*◌, ◌/◌, ◌%◌, ◌^◌, ◌≤◌}
 use native.Mathlib.Omega.{arith}
@@ -8,7 +8,6 @@ use lib.Bits.{bit_or}
 use lib.Seq.{set_out}
 use Rattle.words.proofs.ShiftLaws.{one_shl}
 use Rattle.verdict.specs.way.Marks.{with_mark}
-use borrow.Author.Rules.{rules}
 use Rattle.verdict.proofs.marks.put_mark.Goals as goal
 
 module _ (marks : List ℕ) (v : ℕ) where

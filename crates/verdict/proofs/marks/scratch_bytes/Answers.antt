@@ -1,5 +1,5 @@
 -- `verdict::marks::scratch_bytes` meets its contract. Assumes nothing.
-use mathlib.Core.Path.{◌≡◌, sym, ap, ◌∙◌}
+use mathlib.Core.Path.{◌≡◌, ap, ◌∙◌}
 use Prim.Native.Nat.{ℕ, ◌*◌, ◌/◌, ◌%◌, ◌^◌, ◌≤◌, ◌<◌, min}
 use native.Mathlib.Omega.{arith}
 use borrow.Author.Tests.{lt-ltb, le-ltb}
@@ -7,7 +7,6 @@ use Rattle.words.proofs.ShiftLaws.{one_shl}
 use Rattle.words.proofs.BoolLaws.{cond_true, cond_false}
 use Rattle.scan.specs.Set.{most_outputs}
 use Rattle.verdict.specs.Judge.{scratch_bytes}
-use borrow.Author.Rules.{rules}
 use Rattle.verdict.proofs.marks.scratch_bytes.Goals as goal
 
 module _ (n : ℕ) where

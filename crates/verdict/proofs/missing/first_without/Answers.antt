@@ -1,11 +1,9 @@
 -- `verdict::missing::first_without` meets its contract. The invariant: no word passed is without a safe vector, every mask kept is one of words with one,
 use mathlib.Core.Path.{◌≡◌, sym, ap, ◌∙◌, subst, fun_ext}
-use mathlib.Core.Logic.{⊎_elim}
 use mathlib.Core.Bool.{Bool, true, false, not}
-use Prim.Native.Nat.{ℕ, ◌-◌, ◌^◌, ◌≤◌, ◌<◌}
+use Prim.Native.Nat.{ℕ, ◌^◌, ◌≤◌, ◌<◌}
 use native.Mathlib.Omega.{arith}
 use lib.Pow.{pow_mono}
-use borrow.Author.Tests.{not-false}
 use Rattle.words.specs.Loop.{some}
 use Rattle.words.proofs.LoopLaws.{some_false_at, first_is, first_none}
 use Rattle.words.proofs.ShiftLaws.{one_shl}
@@ -26,7 +24,6 @@ use Rattle.scan.proofs.EntriesLaws.{made_entries}
 use Rattle.verdict.specs.Judge.{lacks}
 use Rattle.verdict.specs.way.Seen.{Known}
 use Rattle.verdict.proofs.SeenLaws.{known_hit, known_more, lacks_alike}
-use borrow.Author.Rules.{rules}
 use Rattle.verdict.proofs.missing.first_without.Goals as goal
 use Rattle.verdict.proofs.missing.first_without.Goals.{After-is_seen, At-loop-w, Joined-not-is_seen, Start, then-not-is_seen+else-not-is_any_safe, else-not-is_seen}
 
@@ -79,10 +76,10 @@ passed c =
     let a = c.active_in-active.result in
     let told = active-told c.before in
     elim c.if-not-is_seen.branch [
-      then-not-is_seen+else-not-is_any_safe w ↦
-        let has = sym (lacks-told c.before w.enter-e.result w.enter-e.ensures w.is_any_safe.result w.is_any_safe.ensures) ∙ ap not w.if-not-is_any_safe.false in
-        (has, known_more s (lacks s) (lacks_alike s c.requires.0) c.loop-w.seen c.loop-w.invariant.3 c.loop-w.w a told has _ (w.seen-is ∙ w.keep_seen.ensures))
-    | else-not-is_seen w ↦ (
+      | then-not-is_seen+else-not-is_any_safe w ↦
+          let has = sym (lacks-told c.before w.enter-e.result w.enter-e.ensures w.is_any_safe.result w.is_any_safe.ensures) ∙ ap not w.if-not-is_any_safe.false in
+          (has, known_more s (lacks s) (lacks_alike s c.requires.0) c.loop-w.seen c.loop-w.invariant.3 c.loop-w.w a told has _ (w.seen-is ∙ w.keep_seen.ensures))
+      | else-not-is_seen w ↦ (
         known_hit s (lacks s) c.loop-w.seen c.loop-w.invariant.3 c.loop-w.w a told (sym c.is_seen.ensures ∙ w.if-not-is_seen.false),
         subst (Known s (lacks s)) (sym w.seen-is) c.loop-w.invariant.3,
       )

@@ -1,16 +1,14 @@
 -- `verdict::missing::is_any_of` meets its contract. The invariant: no byte passed has a safe vector. Assumes nothing.
 use mathlib.Core.Path.{◌≡◌, sym, ap, ◌∙◌}
-use mathlib.Core.Bool.{Bool, true, false, not}
-use Prim.Native.Nat.{ℕ, ◌≤◌, ◌-◌}
+use mathlib.Core.Bool.{not}
+use Prim.Native.Nat.{ℕ}
 use native.Mathlib.Omega.{arith}
-use lib.Dec.{eqb}
 use borrow.Author.Tests.{eq-eqb, ne_eqb}
 use Rattle.words.specs.Loop.{some}
 use Rattle.words.proofs.LoopLaws.{some_true}
 use Rattle.words.proofs.LoopTurns.{some_none, some_miss}
 use Rattle.scan.specs.way.Eight.{safe_byte}
 use Rattle.verdict.specs.way.Marks.{has_mark}
-use borrow.Author.Rules.{rules}
 use Rattle.verdict.proofs.missing.is_any_of.Goals as goal
 use Rattle.verdict.proofs.missing.is_any_of.Goals.{Start}
 

@@ -1,7 +1,6 @@
 -- `verdict::missing::is_any_safe` meets its contract. Assumes nothing.
 use mathlib.Core.Path.{◌≡◌, sym, ap, ap₂, ◌∙◌}
-use mathlib.Core.Bool.{true}
-use Prim.Native.Nat.{ℕ, ◌^◌, ◌≤◌, min}
+use Prim.Native.Nat.{ℕ, ◌^◌}
 use native.Mathlib.Nat.{min-eq_left}
 use native.Mathlib.Omega.{arith}
 use lib.Bits.{bit_and}
@@ -15,7 +14,6 @@ use Rattle.verdict.specs.Judge.{scratch_bytes}
 use Rattle.verdict.specs.way.Marks.{first_vectors, has_mark}
 use Rattle.verdict.proofs.JudgeLaws.{scratch_eighth, scratch_mono}
 use Rattle.verdict.proofs.MarksLaws.{some_safe}
-use borrow.Author.Rules.{rules}
 use Rattle.verdict.proofs.missing.is_any_safe.Goals as goal
 use Rattle.verdict.proofs.missing.is_any_safe.Goals.{After-scratch_bytes-bytes}
 

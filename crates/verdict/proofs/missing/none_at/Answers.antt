@@ -8,7 +8,6 @@ use Rattle.scan.specs.Shape.{well_formed}
 use Rattle.scan.specs.way.Holds.{holds_at}
 use Rattle.scan.proofs.ActiveLaws.{holds_at_law}
 use Rattle.verdict.specs.Judge.{none_by, none_at}
-use borrow.Author.Rules.{rules}
 use Rattle.verdict.proofs.missing.none_at.Goals as goal
 
 -- the word is told by the holds there

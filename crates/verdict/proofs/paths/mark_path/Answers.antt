@@ -1,7 +1,6 @@
 -- `verdict::paths::mark_path` meets its contract. The invariant: the vectors passed are marked. Assumes nothing.
 use mathlib.Core.Path.{◌≡◌, refl, sym, ap, ◌∙◌}
-use mathlib.Core.List.{List}
-use Prim.Native.Nat.{ℕ, ◌+◌, ◌≤◌, ◌-◌}
+use Prim.Native.Nat.{ℕ, ◌+◌, ◌-◌}
 use native.Mathlib.Omega.{arith}
 use lib.ListN.{length}
 use Rattle.words.specs.Loop.{iterate}
@@ -10,7 +9,6 @@ use Rattle.verdict.specs.way.Marks.{with_mark}
 use Rattle.verdict.specs.way.Paths.{path_marked}
 use Rattle.verdict.proofs.MarksLaws.{mark_length}
 use Rattle.verdict.proofs.PathsLaws.{pass_more, path_none, path_more}
-use borrow.Author.Rules.{rules}
 use Rattle.verdict.proofs.paths.mark_path.Goals as goal
 use Rattle.verdict.proofs.paths.mark_path.Goals.{Start}
 

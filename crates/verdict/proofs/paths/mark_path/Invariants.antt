@@ -1,16 +1,12 @@
 -- `verdict::paths::mark_path` meets its contract. The invariant: the vectors passed are marked. Assumes nothing.
-use mathlib.Core.Path.{◌≡◌, refl, sym, ap, ◌∙◌}
+use mathlib.Core.Path.{◌≡◌}
 use mathlib.Core.List.{List}
-use Prim.Native.Nat.{ℕ, ◌+◌, ◌≤◌, ◌-◌}
-use native.Mathlib.Omega.{arith}
+use Prim.Native.Nat.{ℕ, ◌≤◌, ◌-◌}
 use lib.ListN.{length}
 use Rattle.words.specs.Loop.{iterate}
 use Rattle.scan.specs.way.Table.{pass_over}
 use Rattle.verdict.specs.way.Marks.{with_mark}
 use Rattle.verdict.specs.way.Paths.{path_marked}
-use Rattle.verdict.proofs.MarksLaws.{mark_length}
-use Rattle.verdict.proofs.PathsLaws.{pass_more, path_none, path_more}
-use borrow.Author.Rules.{rules}
 use Rattle.verdict.proofs.paths.mark_path.Given as goal
 
 abbrev pub invariant-loop-done : goal.invariant-loop-done

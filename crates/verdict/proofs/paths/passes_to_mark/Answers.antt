@@ -1,17 +1,14 @@
 -- `verdict::paths::passes_to_mark` meets its contract. The invariant: the vectors passed are not marked, the last of them are in the trail. Assumes nothing.
 use mathlib.Core.Path.{◌≡◌, refl, subst}
-use mathlib.Core.Bool.{false}
-use Prim.Native.Nat.{ℕ, ◌+◌, ◌%◌, ◌≤◌, ◌-◌}
+use Prim.Native.Nat.{ℕ, ◌+◌, ◌%◌}
 use native.Mathlib.Omega.{arith}
-use borrow.Author.Tests.{not-true, not-false}
 use lib.ListN.{set}
-use Rattle.words.specs.Loop.{some, iterate}
+use Rattle.words.specs.Loop.{iterate}
 use Rattle.words.proofs.LoopTurns.{some_none}
 use Rattle.scan.specs.way.Table.{pass_over}
 use Rattle.verdict.specs.way.Marks.{marked}
 use Rattle.verdict.specs.way.Paths.{trail_places, Trail}
-use Rattle.verdict.proofs.PathsLaws.{pass_more, marked_after, come_here, come_on, come_never, trail_none, trail_more}
-use borrow.Author.Rules.{rules}
+use Rattle.verdict.proofs.PathsLaws.{pass_more, come_here, come_on, come_never, trail_none, trail_more}
 use Rattle.verdict.proofs.paths.passes_to_mark.Goals as goal
 use Rattle.verdict.proofs.paths.passes_to_mark.Goals.{Start}
 
@@ -32,9 +29,12 @@ returns-then-most-made c =
     let l = m in
     let s = l in
     let told : m.is_marked.result ≡ marked s.args.marks.now l.loop-trail.v = m.is_marked.ensures in
-    let last : l.loop-trail.made ≡ s.args.limit = omega arith in record { value = come_never (next (goal.at.returns-then-most-made c).Start) s.args.marks.now s.args.limit s.args.from l.loop-trail.made l.loop-trail.v l.loop-trail.invariant.1 l.loop-trail.invariant.2 l.loop-trail.invariant.3
-          m.is_marked.result told c.loop-trail-test.true (omega arith); trail = subst (λ (k : ℕ). Trail (next (goal.at.returns-then-most-made c).Start) s.args.from (k + 1) (set l.loop-trail.trail (l.loop-trail.made % trail_places) l.loop-trail.v)) last
-          (trail_more (next (goal.at.returns-then-most-made c).Start) s.args.from l.loop-trail.made l.loop-trail.v l.loop-trail.trail l.loop-trail.invariant.4 l.loop-trail.invariant.2) }
+    let last : l.loop-trail.made ≡ s.args.limit = omega arith in record {
+      value = come_never (next (goal.at.returns-then-most-made c).Start) s.args.marks.now s.args.limit s.args.from l.loop-trail.made l.loop-trail.v l.loop-trail.invariant.1 l.loop-trail.invariant.2 l.loop-trail.invariant.3
+          m.is_marked.result told c.loop-trail-test.true (omega arith);
+      trail = subst (λ (k : ℕ). Trail (next (goal.at.returns-then-most-made c).Start) s.args.from (k + 1) (set l.loop-trail.trail (l.loop-trail.made % trail_places) l.loop-trail.v)) last
+          (trail_more (next (goal.at.returns-then-most-made c).Start) s.args.from l.loop-trail.made l.loop-trail.v l.loop-trail.trail l.loop-trail.invariant.4 l.loop-trail.invariant.2);
+    }
 
 pub loop-trail-preserved : goal.loop-trail-preserved
 loop-trail-preserved c =
@@ -56,5 +56,8 @@ returns c =
     let m = c in
     let l = m in
     let s = l in
-    let told : m.is_marked.result ≡ marked s.args.marks.now l.loop-trail.v = m.is_marked.ensures in record { value = come_here (next (goal.at.returns c).Start) s.args.marks.now s.args.limit s.args.from l.loop-trail.made l.loop-trail.v l.loop-trail.invariant.1 l.loop-trail.invariant.2 l.loop-trail.invariant.3
-          m.is_marked.result told c.loop-trail-test.false; trail = l.loop-trail.invariant.4 }
+    let told : m.is_marked.result ≡ marked s.args.marks.now l.loop-trail.v = m.is_marked.ensures in record {
+      value = come_here (next (goal.at.returns c).Start) s.args.marks.now s.args.limit s.args.from l.loop-trail.made l.loop-trail.v l.loop-trail.invariant.1 l.loop-trail.invariant.2 l.loop-trail.invariant.3
+          m.is_marked.result told c.loop-trail-test.false;
+      trail = l.loop-trail.invariant.4;
+    }

@@ -1,17 +1,11 @@
 -- `verdict::paths::passes_to_mark` meets its contract. The invariant: the vectors passed are not marked, the last of them are in the trail. Assumes nothing.
-use mathlib.Core.Path.{◌≡◌, refl, subst}
+use mathlib.Core.Path.{◌≡◌}
 use mathlib.Core.Bool.{false}
-use Prim.Native.Nat.{ℕ, ◌+◌, ◌%◌, ◌≤◌, ◌-◌}
-use native.Mathlib.Omega.{arith}
-use borrow.Author.Tests.{not-true, not-false}
-use lib.ListN.{set}
+use Prim.Native.Nat.{◌≤◌, ◌-◌}
 use Rattle.words.specs.Loop.{some, iterate}
-use Rattle.words.proofs.LoopTurns.{some_none}
 use Rattle.scan.specs.way.Table.{pass_over}
-use Rattle.verdict.specs.way.Marks.{marked}
-use Rattle.verdict.specs.way.Paths.{trail_places, Trail}
-use Rattle.verdict.proofs.PathsLaws.{pass_more, marked_after, come_here, come_on, come_never, trail_none, trail_more}
-use borrow.Author.Rules.{rules}
+use Rattle.verdict.specs.way.Paths.{Trail}
+use Rattle.verdict.proofs.PathsLaws.{marked_after}
 use Rattle.verdict.proofs.paths.passes_to_mark.Given as goal
 
 abbrev pub invariant-loop-trail : goal.invariant-loop-trail

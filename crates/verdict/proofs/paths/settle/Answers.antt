@@ -14,7 +14,6 @@ use Rattle.words.proofs.BoolLaws.{and_true, cond_true, cond_false}
 use Rattle.verdict.specs.way.Marks.{marked, with_mark}
 use Rattle.verdict.specs.way.Paths.{passes_to_mark, comes_to_mark, path_marked, settled, trail_places, Trail, trail_marked}
 use Rattle.verdict.proofs.PathsLaws.{come_here, path_none, path_more, trail_path}
-use borrow.Author.Rules.{rules}
 use Rattle.verdict.proofs.paths.settle.Goals as goal
 use Rattle.verdict.proofs.paths.settle.Goals.{After-passes_to_mark-made, Start}
 
@@ -141,6 +140,6 @@ returns c =
     let rest : q.mark_trail.new.marks ≡ trail_marked (trail (goal.at.returns c).After-passes_to_mark-made) lost (made - lost) mid = q.mark_trail.ensures in record {
       value = comes (pass (goal.at.returns c).Start) a.limit a.from a.marks.now made (made-is (goal.at.returns c).After-passes_to_mark-made) few;
       marks_after = came (pass (goal.at.returns c).Start) a.limit a.from a.marks.now made (made-is (goal.at.returns c).After-passes_to_mark-made) few _
-            (joined (pass (goal.at.returns c).Start) a.from a.marks.now made (trail (goal.at.returns c).After-passes_to_mark-made) (trail_is (goal.at.returns c).After-passes_to_mark-made) lost lost-is mid _ gone rest);
+          (joined (pass (goal.at.returns c).Start) a.from a.marks.now made (trail (goal.at.returns c).After-passes_to_mark-made) (trail_is (goal.at.returns c).After-passes_to_mark-made) lost lost-is mid _ gone rest);
       trail_len = (trail_is (goal.at.returns c).After-passes_to_mark-made).long;
     }

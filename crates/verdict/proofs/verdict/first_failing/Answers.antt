@@ -1,9 +1,8 @@
 -- `verdict::verdict::first_failing` meets its contract. The invariants: no word passed fails, every mask kept is one of good words, and what is kept of the block is
 use mathlib.Core.Path.{◌≡◌, sym, ap, ◌∙◌, subst}
-use mathlib.Core.Logic.{⊎_elim}
 use mathlib.Core.Bool.{Bool, true, false, not}
 use mathlib.Core.List.{List}
-use Prim.Native.Nat.{ℕ, ◌+◌, ◌-◌, ◌^◌, ◌≤◌, ◌<◌}
+use Prim.Native.Nat.{ℕ, ◌+◌, ◌^◌, ◌≤◌, ◌<◌}
 use native.Mathlib.Omega.{arith}
 use lib.ListN.{length}
 use lib.Bits.{bit_and}
@@ -30,13 +29,10 @@ use Rattle.scan.proofs.TableLaws.{made_table}
 use Rattle.verdict.specs.declared.verdict.Verdict.TheVariants.{Accepted, NoEnd}
 use Rattle.verdict.specs.Judge.{endless, none_at, scratch_bytes}
 use Rattle.verdict.specs.FirstFailing.{fails, first_failing}
-use Rattle.verdict.specs.way.Paths.{trail_places}
-use Rattle.verdict.specs.way.Seen.{Known}
 use Rattle.verdict.specs.way.Left.{verdict_by}
 use Rattle.verdict.proofs.FirstFailingLaws.{failing_accepted, failing_no_vector, failing_no_end, passes}
 use Rattle.verdict.proofs.WordMarks.{Ready, clash_none, marked_safe, settled_request}
 use Rattle.verdict.proofs.SeenLaws.{known_hit, known_more, fails_alike}
-use borrow.Author.Rules.{rules}
 use Rattle.verdict.proofs.verdict.first_failing.Goals as goal
 use Rattle.verdict.proofs.verdict.first_failing.Goals.{After-active_in-active, After-keep_seen, After-mark_safe-any, After-settle, After-told_by, At-words, Left-words, Start, else-words-test, then-words-test+else-is_seen+in_default, then-words-test+else-is_seen+in-Forced+then-not-any, then-words-test+else-is_seen+in-Forced+else-not-any+then-loop-g-test+then-not-settle}
 
@@ -149,26 +145,26 @@ by_way {ℓ} : {C : Type ℓ} (c : Left-words)
 by_way c all none never =
     let o = c in
     elim c.words-test.branch [
-      else-words-test w ↦ all (ap length w.marks-is ∙ o.words.invariant.3) (omega (arith, o.words.invariant.0, w.words-test.false))
-    | then-words-test+else-is_seen+in_default w ↦
-        let table = table-told c.before w.active_in-active.result (mask-told c.before w.high_at-high.result w.high_at-high.ensures w.active_in-active.result w.active_in-active.ensures) w.build_by-t.result w.build_by-t.ensures in
-        none (ap length w.marks-is ∙ o.words.invariant.3) (omega (arith, o.words.invariant.0, w.words-test.true)) w.any-is
-        (clash_none c.args.set c.requires.0 c.words.w w.build_by-t.result table w.in_default.field-0 w.in_default.is)
-    | then-words-test+else-is_seen+in-Forced+then-not-any w ↦
-        let table = table-told c.before w.active_in-active.result (mask-told c.before w.high_at-high.result w.high_at-high.ensures w.active_in-active.result w.active_in-active.ensures) w.build_by-t.result w.build_by-t.ensures in
-        let told = marked_safe c.args.set c.requires.0 c.words.w w.build_by-t.result table w.in-Forced.f0 w.in-Forced.f1 w.in-Forced.is w.mark_safe-any.result _ w.mark_safe-any.ensures.value w.mark_safe-any.ensures.marks_after in
-        let off = w.if-not-any.true in
-        none (ap length w.marks-is ∙ told.1.long) (omega (arith, o.words.invariant.0, w.words-test.true)) (w.any-is ∙ off) (sym told.0 ∙ off)
-    | then-words-test+else-is_seen+in-Forced+else-not-any+then-loop-g-test+then-not-settle w ↦
-        let table = table-told c.before w.active_in-active.result (mask-told c.before w.high_at-high.result w.high_at-high.ensures w.active_in-active.result w.active_in-active.ensures) w.build_by-t.result w.build_by-t.ensures in
-        let told = marked_safe c.args.set c.requires.0 c.words.w w.build_by-t.result table w.in-Forced.f0 w.in-Forced.f1 w.in-Forced.is w.mark_safe-any.result _ w.mark_safe-any.ensures.value w.mark_safe-any.ensures.marks_after in
-        let on = w.if-not-any.false in
-        let below : w.loop-g.g < 2 ^ c.args.set.n = omega (arith, o.words.invariant.1, w.loop-g-test.true) in
-        let ended = settled_request c.args.set c.requires.0 c.words.w w.build_by-t.result table w.in-Forced.f0 w.in-Forced.f1 w.in-Forced.is
+      | else-words-test w ↦ all (ap length w.marks-is ∙ o.words.invariant.3) (omega (arith, o.words.invariant.0, w.words-test.false))
+      | then-words-test+else-is_seen+in_default w ↦
+          let table = table-told c.before w.active_in-active.result (mask-told c.before w.high_at-high.result w.high_at-high.ensures w.active_in-active.result w.active_in-active.ensures) w.build_by-t.result w.build_by-t.ensures in
+          none (ap length w.marks-is ∙ o.words.invariant.3) (omega (arith, o.words.invariant.0, w.words-test.true)) w.any-is
+          (clash_none c.args.set c.requires.0 c.words.w w.build_by-t.result table w.in_default.field-0 w.in_default.is)
+      | then-words-test+else-is_seen+in-Forced+then-not-any w ↦
+          let table = table-told c.before w.active_in-active.result (mask-told c.before w.high_at-high.result w.high_at-high.ensures w.active_in-active.result w.active_in-active.ensures) w.build_by-t.result w.build_by-t.ensures in
+          let told = marked_safe c.args.set c.requires.0 c.words.w w.build_by-t.result table w.in-Forced.f0 w.in-Forced.f1 w.in-Forced.is w.mark_safe-any.result _ w.mark_safe-any.ensures.value w.mark_safe-any.ensures.marks_after in
+          let off = w.if-not-any.true in
+          none (ap length w.marks-is ∙ told.1.long) (omega (arith, o.words.invariant.0, w.words-test.true)) (w.any-is ∙ off) (sym told.0 ∙ off)
+      | then-words-test+else-is_seen+in-Forced+else-not-any+then-loop-g-test+then-not-settle w ↦
+          let table = table-told c.before w.active_in-active.result (mask-told c.before w.high_at-high.result w.high_at-high.ensures w.active_in-active.result w.active_in-active.ensures) w.build_by-t.result w.build_by-t.ensures in
+          let told = marked_safe c.args.set c.requires.0 c.words.w w.build_by-t.result table w.in-Forced.f0 w.in-Forced.f1 w.in-Forced.is w.mark_safe-any.result _ w.mark_safe-any.ensures.value w.mark_safe-any.ensures.marks_after in
+          let on = w.if-not-any.false in
+          let below : w.loop-g.g < 2 ^ c.args.set.n = omega (arith, o.words.invariant.1, w.loop-g-test.true) in
+          let ended = settled_request c.args.set c.requires.0 c.words.w w.build_by-t.result table w.in-Forced.f0 w.in-Forced.f1 w.in-Forced.is
           w.loop-g.marks w.loop-g.invariant.1 w.loop-g.g below w.start_vector-v.result w.start_vector-v.ensures
           w.settle.result _ w.settle.ensures.value w.settle.ensures.marks_after in
-        let off = w.if-not-settle.true in
-        never (ap length w.marks-is ∙ ended.1.long) (omega (arith, o.words.invariant.0, w.words-test.true)) (w.any-is ∙ on) (sym told.0 ∙ on)
+          let off = w.if-not-settle.true in
+          never (ap length w.marks-is ∙ ended.1.long) (omega (arith, o.words.invariant.0, w.words-test.true)) (w.any-is ∙ on) (sym told.0 ∙ on)
           (subst (λ (k : ℕ). k < 2 ^ c.args.set.n) (sym w.g-is) below)
           (subst (λ (k : ℕ). some k (endless c.args.set c.words.w) ≡ false) (sym w.g-is) w.loop-g.invariant.3)
           (ap (endless c.args.set c.words.w) w.g-is ∙ not-false _ (sym ended.0 ∙ off))

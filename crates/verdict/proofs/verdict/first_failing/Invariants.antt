@@ -2,44 +2,17 @@
 -- right at the word; at a word the marks are right, and the walk of no request passed is endless. The loops are left by label where the word has no safe vector,
 -- or the request's walk is endless.
 -- Assumes nothing.
-use mathlib.Core.Path.{◌≡◌, sym, ap, ◌∙◌, subst}
-use mathlib.Core.Logic.{⊎_elim}
-use mathlib.Core.Bool.{Bool, true, false, not}
-use mathlib.Core.List.{List}
-use Prim.Native.Nat.{ℕ, ◌+◌, ◌-◌, ◌^◌, ◌≤◌, ◌<◌}
-use native.Mathlib.Omega.{arith}
+use mathlib.Core.Path.{◌≡◌}
+use mathlib.Core.Bool.{false}
+use Prim.Native.Nat.{◌-◌, ◌^◌, ◌≤◌}
 use lib.ListN.{length}
-use lib.Bits.{bit_and}
-use lib.Pow.{pow_mono}
-use borrow.Author.Tests.{not-true, not-false, le-leb, lt-leb}
-use Rattle.words.specs.Word.{without}
 use Rattle.words.specs.Loop.{some}
-use Rattle.words.proofs.LoopLaws.{some_false_at}
-use Rattle.words.proofs.ShiftLaws.{one_shl}
-use Rattle.words.proofs.LoopTurns.{some_none, some_miss}
-use Rattle.scan.specs.declared.columns.Columns.{Columns}
-use Rattle.scan.specs.declared.set.Set.{Set}
-use Rattle.scan.specs.declared.table.Table.{Table}
-use Rattle.scan.specs.Set.{most_reads, most_outputs}
-use Rattle.scan.specs.Shape.{well_formed}
-use Rattle.scan.specs.Constraint.{has_vector}
-use Rattle.scan.specs.Active.{active_of}
-use Rattle.scan.specs.way.Block.{active_high, high_at, active_in}
-use Rattle.scan.specs.way.Holds.{holds_by}
-use Rattle.scan.specs.way.Table.{table_by, table_of}
-use Rattle.scan.proofs.ShapeLaws.{counts}
-use Rattle.scan.proofs.BlockLaws.{high_first, high_next, made_in_block}
-use Rattle.scan.proofs.TableLaws.{made_table}
-use Rattle.verdict.specs.declared.verdict.Verdict.TheVariants.{Accepted, NoEnd}
-use Rattle.verdict.specs.Judge.{endless, none_at, scratch_bytes}
-use Rattle.verdict.specs.FirstFailing.{fails, first_failing}
+use Rattle.scan.specs.way.Block.{active_high, high_at}
+use Rattle.verdict.specs.Judge.{endless, scratch_bytes}
+use Rattle.verdict.specs.FirstFailing.{fails}
 use Rattle.verdict.specs.way.Paths.{trail_places}
 use Rattle.verdict.specs.way.Seen.{Known}
-use Rattle.verdict.specs.way.Left.{verdict_by}
-use Rattle.verdict.proofs.FirstFailingLaws.{failing_accepted, failing_no_vector, failing_no_end, passes}
-use Rattle.verdict.proofs.WordMarks.{Ready, clash_none, marked_safe, settled_request}
-use Rattle.verdict.proofs.SeenLaws.{known_hit, known_more, fails_alike}
-use borrow.Author.Rules.{rules}
+use Rattle.verdict.proofs.WordMarks.{Ready}
 use Rattle.verdict.proofs.verdict.first_failing.Given as goal
 
 abbrev pub invariant-loop-g : goal.invariant-loop-g

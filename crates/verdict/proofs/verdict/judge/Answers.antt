@@ -6,7 +6,6 @@ use native.Mathlib.Nat.{sub-zero, min-eq_left}
 use native.Mathlib.Omega.{arith}
 use lib.ListN.{length, length-replicate}
 use lib.Seq.{length-take-le}
-use borrow.Author.Tests.{not-true, not-false}
 use Rattle.scan.specs.declared.set.Set.{Set}
 use Rattle.scan.specs.Set.{most_outputs}
 use Rattle.scan.specs.Shape.{well_formed}
@@ -15,7 +14,6 @@ use Rattle.verdict.specs.Judge.{scratch_bytes}
 use Rattle.verdict.specs.way.Paths.{trail_places}
 use Rattle.verdict.proofs.JudgeLaws.{bad_set, short_scratch, judged, later_kept}
 use Rattle.verdict.proofs.SeenLaws.{known_none, known_vectors}
-use borrow.Author.Rules.{rules}
 use Rattle.verdict.proofs.verdict.judge.Goals as goal
 use Rattle.verdict.proofs.verdict.judge.Goals.{After-scratch_bytes-bytes}
 
@@ -69,5 +67,8 @@ returns c =
     let f = j in
     let b = f in
     let a = b.args in
-    let room : scratch_bytes a.set.n ≤ length a.scratch.now = omega (arith, bytes-told (goal.at.returns c).After-scratch_bytes-bytes, f.if-scratch-bytes.false) in record { value = c.revise.ensures ∙ judged a.set (length a.scratch.now) (formed (goal.at.returns c).After-scratch_bytes-bytes) room; scratch_unchanged = later_kept a.set (length a.scratch.now) (formed (goal.at.returns c).After-scratch_bytes-bytes) room (bytes (goal.at.returns c).After-scratch_bytes-bytes - 0) (part-is (goal.at.returns c).After-scratch_bytes-bytes) j.first_failing-found.new.marks a.scratch.now
-          (j.first_failing-found.auto.marks ∙ length-take-le (bytes (goal.at.returns c).After-scratch_bytes-bytes - 0) a.scratch.now (omega (arith, f.if-scratch-bytes.false))) }
+    let room : scratch_bytes a.set.n ≤ length a.scratch.now = omega (arith, bytes-told (goal.at.returns c).After-scratch_bytes-bytes, f.if-scratch-bytes.false) in record {
+      value = c.revise.ensures ∙ judged a.set (length a.scratch.now) (formed (goal.at.returns c).After-scratch_bytes-bytes) room;
+      scratch_unchanged = later_kept a.set (length a.scratch.now) (formed (goal.at.returns c).After-scratch_bytes-bytes) room (bytes (goal.at.returns c).After-scratch_bytes-bytes - 0) (part-is (goal.at.returns c).After-scratch_bytes-bytes) j.first_failing-found.new.marks a.scratch.now
+          (j.first_failing-found.auto.marks ∙ length-take-le (bytes (goal.at.returns c).After-scratch_bytes-bytes - 0) a.scratch.now (omega (arith, f.if-scratch-bytes.false)));
+    }

@@ -1,26 +1,19 @@
 -- `verdict::verdict::revise` meets its contract: an endless walk gives way or stays by what the search tells, and any other answer stays. Assumes nothing.
-use mathlib.Core.Path.{◌≡◌, sym, ◌∙◌, subst}
+use mathlib.Core.Path.{◌≡◌, sym, ◌∙◌}
 use mathlib.Core.Bool.{true}
-use mathlib.Core.Logic.{◌≢◌}
-use mathlib.Core.List.{[], ◌∷◌}
 use Prim.Native.Nat.{ℕ, ◌*◌, ◌%◌, ◌^◌, ◌≤◌, ◌<◌}
 use native.Mathlib.Omega.{arith}
 use lib.Pow.{pow_mono}
-use denote.Enum.Declared.{tag_of}
-use types.Run.{OneOf, miss}
 use Rattle.words.proofs.ShiftLaws.{one_shl}
 use Rattle.scan.specs.Set.{most_reads}
 use Rattle.scan.specs.Shape.{well_formed}
 use Rattle.scan.specs.declared.set.Set.{Set}
 use Rattle.scan.proofs.ShapeLaws.{counts}
-use Rattle.verdict.specs.declared.verdict.Verdict.{Verdict}
 use Rattle.verdict.specs.declared.verdict.Verdict.TheVariants.{NoEnd}
-use Rattle.verdict.specs.contracts.verdict.Verdict.{the_type}
 use Rattle.verdict.specs.Judge.{none_at}
 use Rattle.verdict.specs.FirstFailing.{first_failing}
 use Rattle.verdict.proofs.MeaningLaws.{judge_without}
 use Rattle.verdict.proofs.FailingStays.{found_stays, found_within, none_up_to, stays_endless}
-use borrow.Author.Rules.{rules}
 use Rattle.verdict.proofs.verdict.revise.Goals as goal
 use Rattle.verdict.proofs.verdict.revise.Goals.{In-NoEnd}
 

@@ -5,7 +5,6 @@ use Prim.Native.Nat.{◌+◌, ◌*◌, ◌≤◌}
 use lib.ListN.{length}
 use Rattle.scan.specs.Set.{most_reads, most_outputs}
 use Rattle.writer.specs.Write.{literals_by}
-use borrow.Author.Rules.{rules}
 use Rattle.writer.proofs.field.body_length.Goals as goal
 
 pub returns : goal.returns

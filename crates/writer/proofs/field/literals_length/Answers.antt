@@ -7,7 +7,6 @@ use lib.Bits.{bit_or}
 use lib.Count.{ones, ones-le}
 use Rattle.scan.specs.Set.{most_reads, most_outputs, outs}
 use Rattle.header.proofs.TagLaws.{size_bounds}
-use borrow.Author.Rules.{rules}
 use Rattle.writer.proofs.LiteralBodyLaws.{literals_long}
 use Rattle.writer.proofs.field.literals_length.Goals as goal
 use Rattle.writer.proofs.field.literals_length.Goals.{After-literal_size, Start}

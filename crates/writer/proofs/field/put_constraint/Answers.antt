@@ -9,7 +9,6 @@ use Rattle.header.specs.Tag.{tag_by}
 use Rattle.writer.specs.Write.{field_of, literals_by}
 use Rattle.writer.specs.way.Write.{Put}
 use Rattle.writer.proofs.WriteLaws.{body_room, field_put}
-use borrow.Author.Rules.{rules}
 use Rattle.writer.proofs.field.put_constraint.Goals as goal
 use Rattle.writer.proofs.field.put_constraint.Goals.{After-names_high-wide}
 

@@ -2,7 +2,6 @@
 use mathlib.Core.Path.{refl}
 use mathlib.Core.List.{[], ◌∷◌}
 use Rattle.writer.proofs.WriteLaws.{field_put}
-use borrow.Author.Rules.{rules}
 use Rattle.writer.proofs.field.put_counts.Goals as goal
 
 pub returns : goal.returns

@@ -4,7 +4,6 @@ use mathlib.Core.List.{[], ◌∷◌}
 use Prim.Native.Nat.{ℕ, ◌/◌, ◌%◌}
 use native.Mathlib.Omega.{arith}
 use Rattle.writer.specs.way.Write.{Put}
-use borrow.Author.Rules.{rules}
 use Rattle.writer.proofs.field.put_header.Goals as goal
 
 pub returns : goal.returns

@@ -3,7 +3,6 @@ use mathlib.Core.Path.{sym, subst}
 use Rattle.scan.specs.declared.set.Kind.{Kind}
 use Rattle.writer.specs.Write.{kind_bytes}
 use Rattle.writer.specs.way.Write.{Put}
-use borrow.Author.Rules.{rules}
 use Rattle.writer.proofs.field.put_kind.Goals as goal
 
 pub returns-in-Sensor : goal.returns-in-Sensor

@@ -5,7 +5,6 @@ use Prim.Native.Nat.{◌+◌, ◌≤◌}
 use lib.ListN.{length}
 use Rattle.writer.specs.Write.{literal_bytes}
 use Rattle.writer.specs.way.Write.{Put}
-use borrow.Author.Rules.{rules}
 use Rattle.writer.proofs.field.put_literal.Goals as goal
 
 pub put_three-requires : goal.put_three-requires

@@ -2,7 +2,7 @@
 use mathlib.Core.Path.{◌≡◌, sym, subst}
 use mathlib.Core.Bool.{true}
 use mathlib.Core.List.{List}
-use Prim.Native.Nat.{ℕ, ◌+◌, ◌-◌, ◌^◌, ◌≤◌, ◌<◌}
+use Prim.Native.Nat.{ℕ, ◌+◌, ◌-◌, ◌≤◌, ◌<◌}
 use native.Mathlib.Omega.{arith}
 use lib.Bits.{and_le_r}
 use lib.Count.{count_trailing_zeros}
@@ -13,7 +13,7 @@ use Rattle.words.specs.Word.{odd, bit}
 use Rattle.words.proofs.BitLaws.{bit_below}
 use Rattle.writer.specs.Write.{literal_bytes}
 use Rattle.writer.specs.way.Write.{literal_at, Put}
-use Rattle.writer.proofs.LowestBit.{Lowest, lowest, Rest, rest_all, rest_from, rest_here, rest_gap, rest_next, rest_none}
+use Rattle.writer.proofs.LowestBit.{Lowest, lowest, rest_all, rest_from, rest_here, rest_gap, rest_next, rest_none}
 use Rattle.writer.proofs.LiteralBodyLaws.{literal_here, literals_skip}
 use Rattle.writer.proofs.WriteLaws.{Puts, puts_none, puts_kept, puts_room, puts_one}
 use Rattle.writer.proofs.field.put_literals.Goals as goal

@@ -1,15 +1,8 @@
 -- `writer::field::put_name` meets its contract. The loop's invariant: the name's first k bytes are in place. Assumes nothing.
-use borrow.Author.Rules.{rules}
-use mathlib.Core.Path.{◌≡◌, ◌∙◌, ap}
-use mathlib.Core.List.{List}
-use Prim.Native.Nat.{ℕ, ◌+◌, ◌-◌, ◌≤◌}
-use native.Mathlib.Omega.{arith}
-use lib.ListN.{length, get_or, take, set}
-use lib.Seq.{length-take-le}
-use Rattle.scan.specs.Set.{name_places}
-use Rattle.scan.proofs.NamesLaws.{name_taken, name_short}
+use mathlib.Core.Path.{◌≡◌}
+use Prim.Native.Nat.{◌-◌, ◌≤◌}
+use lib.ListN.{take}
 use Rattle.writer.specs.way.Write.{put_at}
-use Rattle.writer.proofs.WriteLaws.{put_nothing, put_kept, put_next}
 use Rattle.writer.proofs.field.put_name.Given as goal
 
 abbrev pub invariant-loop-k : goal.invariant-loop-k

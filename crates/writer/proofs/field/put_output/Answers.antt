@@ -1,7 +1,6 @@
 -- `writer::field::put_output` meets its contract: a header, and the name behind it. Assumes nothing.
 use Rattle.writer.specs.Write.{output_body}
 use Rattle.writer.proofs.WriteLaws.{field_put}
-use borrow.Author.Rules.{rules}
 use Rattle.writer.proofs.field.put_output.Goals as goal
 
 pub returns : goal.returns

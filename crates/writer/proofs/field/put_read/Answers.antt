@@ -5,7 +5,6 @@ use lib.ListN.{length}
 use Rattle.scan.specs.Names.{name_bytes}
 use Rattle.writer.specs.Write.{kind_bytes, read_body}
 use Rattle.writer.proofs.WriteLaws.{put_then, next_room, body_room, field_put, kind_long, read_long}
-use borrow.Author.Rules.{rules}
 use Rattle.writer.proofs.field.put_read.Goals as goal
 use Rattle.writer.proofs.field.put_read.Goals.{After-put_header-body}
 

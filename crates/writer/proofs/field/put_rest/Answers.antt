@@ -8,7 +8,6 @@ use lib.ListN.{length}
 use Rattle.writer.specs.Write.{field_of, rest_body, rest_field}
 use Rattle.writer.specs.way.Write.{Put}
 use Rattle.writer.proofs.WriteLaws.{put_nothing, body_room, field_put, rest_none, rest_some}
-use borrow.Author.Rules.{rules}
 use Rattle.writer.proofs.field.put_rest.Goals as goal
 use Rattle.writer.proofs.field.put_rest.Goals.{Else-rest-eq0}
 

@@ -3,7 +3,6 @@ use mathlib.Core.Path.{refl}
 use native.Mathlib.Omega.{arith}
 use lib.ListN.{length-set}
 use Rattle.writer.proofs.WriteLaws.{put_two}
-use borrow.Author.Rules.{rules}
 use Rattle.writer.proofs.field.put_two.Goals as goal
 
 pub bounds-buf-at-2 : goal.bounds-buf-at-2

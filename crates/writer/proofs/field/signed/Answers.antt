@@ -1,7 +1,6 @@
 -- `writer::field::signed` meets its contract. Assumes nothing.
 use native.Mathlib.Omega.{arith}
 use Rattle.words.proofs.BoolLaws.{cond_true, cond_false}
-use borrow.Author.Rules.{rules}
 use Rattle.writer.proofs.field.signed.Goals as goal
 
 pub returns-then-plain : goal.returns-then-plain

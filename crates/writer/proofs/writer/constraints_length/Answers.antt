@@ -1,13 +1,12 @@
 -- `writer::writer::constraints_length` meets its contract. The loop's invariant: `len` is the length of the fields of the first i constraints.
 use borrow.Author.Rules.{rules}
 use mathlib.Core.Path.{◌≡◌}
-use Prim.Native.Nat.{◌+◌, ◌-◌, ◌*◌, ◌≤◌}
+use Prim.Native.Nat.{◌+◌, ◌≤◌}
 use native.Mathlib.Omega.{arith}
 use lib.ListN.{length}
 use Rattle.words.proofs.ListLaws.{mapped_long}
-use Rattle.scan.specs.Set.{most_reads, most_outputs, most_constraints}
-use Rattle.writer.specs.way.Write.{constraint_fields}
-use Rattle.writer.proofs.WriteLaws.{constraints_grow, Counted, counted_none, counted_one, counted_all}
+use Rattle.scan.specs.Set.{most_constraints}
+use Rattle.writer.proofs.WriteLaws.{constraints_grow, counted_none, counted_one, counted_all}
 use Rattle.writer.proofs.writer.constraints_length.Goals as goal
 use Rattle.writer.proofs.writer.constraints_length.Goals.{Start}
 

@@ -1,6 +1,5 @@
 -- `writer::writer::file_length` meets its contract: the lengths of the parts, added up. Assumes nothing.
 use native.Mathlib.Omega.{arith}
-use borrow.Author.Rules.{rules}
 use Rattle.scan.specs.Set.{constraint}
 use Rattle.scan.proofs.ShapeLaws.{counts}
 use Rattle.writer.proofs.LiteralBodyLaws.{masks_few}

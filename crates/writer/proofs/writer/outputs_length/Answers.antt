@@ -1,13 +1,12 @@
 -- `writer::writer::outputs_length` meets its contract. The loop's invariant: `len` is the length of the fields of the first j outputs.
 use borrow.Author.Rules.{rules}
 use mathlib.Core.Path.{◌≡◌}
-use Prim.Native.Nat.{◌+◌, ◌-◌, ◌*◌, ◌≤◌}
+use Prim.Native.Nat.{◌+◌, ◌≤◌}
 use native.Mathlib.Omega.{arith}
 use lib.ListN.{length}
 use Rattle.words.proofs.ListLaws.{mapped_long}
-use Rattle.scan.specs.Set.{most_outputs, name_places}
-use Rattle.writer.specs.way.Write.{output_fields}
-use Rattle.writer.proofs.WriteLaws.{outputs_grow, Counted, counted_none, counted_one, counted_all}
+use Rattle.scan.specs.Set.{most_outputs}
+use Rattle.writer.proofs.WriteLaws.{outputs_grow, counted_none, counted_one, counted_all}
 use Rattle.writer.proofs.writer.outputs_length.Goals as goal
 use Rattle.writer.proofs.writer.outputs_length.Goals.{Start}
 

@@ -1,13 +1,12 @@
 -- `writer::writer::put_outputs` meets its contract. The loop's invariant: the fields of the first j outputs are in place. Assumes nothing.
 use borrow.Author.Rules.{rules}
 use mathlib.Core.Path.{◌≡◌}
-use Prim.Native.Nat.{◌-◌, ◌≤◌}
+use Prim.Native.Nat.{◌≤◌}
 use native.Mathlib.Omega.{arith}
 use lib.ListN.{length}
 use Rattle.words.proofs.ListLaws.{mapped_long}
 use Rattle.scan.specs.Set.{most_outputs}
-use Rattle.writer.specs.way.Write.{output_fields}
-use Rattle.writer.proofs.WriteLaws.{outputs_grow, Puts, puts_none, puts_kept, puts_room, puts_one, puts_all}
+use Rattle.writer.proofs.WriteLaws.{outputs_grow, puts_none, puts_kept, puts_room, puts_one, puts_all}
 use Rattle.writer.proofs.writer.put_outputs.Goals as goal
 use Rattle.writer.proofs.writer.put_outputs.Goals.{Start}
 

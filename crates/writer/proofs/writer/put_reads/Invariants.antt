@@ -1,13 +1,7 @@
 -- `writer::writer::put_reads` meets its contract. The loop's invariant: the fields of the first k read points are in place. Assumes nothing.
-use borrow.Author.Rules.{rules}
-use mathlib.Core.Path.{◌≡◌}
-use Prim.Native.Nat.{◌-◌, ◌≤◌}
-use native.Mathlib.Omega.{arith}
-use lib.ListN.{length}
-use Rattle.words.proofs.ListLaws.{mapped_long}
-use Rattle.scan.specs.Set.{most_reads}
+use Prim.Native.Nat.{◌-◌}
 use Rattle.writer.specs.way.Write.{read_fields}
-use Rattle.writer.proofs.WriteLaws.{reads_grow, Puts, puts_none, puts_kept, puts_room, puts_one, puts_all}
+use Rattle.writer.proofs.WriteLaws.{Puts}
 use Rattle.writer.proofs.writer.put_reads.Given as goal
 
 abbrev pub invariant-loop-k : goal.invariant-loop-k

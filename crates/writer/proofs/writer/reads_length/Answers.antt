@@ -1,13 +1,12 @@
 -- `writer::writer::reads_length` meets its contract. The loop's invariant: `len` is the length of the fields of the first k read points.
 use borrow.Author.Rules.{rules}
 use mathlib.Core.Path.{◌≡◌}
-use Prim.Native.Nat.{◌+◌, ◌-◌, ◌*◌, ◌≤◌}
+use Prim.Native.Nat.{◌+◌, ◌≤◌}
 use native.Mathlib.Omega.{arith}
 use lib.ListN.{length, get_or}
 use Rattle.words.proofs.ListLaws.{mapped_long}
-use Rattle.scan.specs.Set.{most_reads, name_places, no_read}
-use Rattle.writer.specs.way.Write.{read_fields}
-use Rattle.writer.proofs.WriteLaws.{read_long, reads_grow, Counted, counted_none, counted_one, counted_all}
+use Rattle.scan.specs.Set.{most_reads, no_read}
+use Rattle.writer.proofs.WriteLaws.{read_long, reads_grow, counted_none, counted_one, counted_all}
 use Rattle.writer.proofs.writer.reads_length.Goals as goal
 use Rattle.writer.proofs.writer.reads_length.Goals.{Start}
 

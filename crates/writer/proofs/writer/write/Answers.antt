@@ -1,11 +1,9 @@
 -- `writer::writer::write` meets its contract: a set that is not well formed, a buffer too short, or the file in the buffer. Assumes nothing.
-use borrow.Author.Tests.{not-true, not-false}
 use mathlib.Core.Path.{◌≡◌, sym, ◌∙◌}
 use mathlib.Core.Bool.{true}
 use native.Mathlib.Omega.{arith}
 use Rattle.scan.specs.Shape.{well_formed}
 use Rattle.writer.proofs.WriteLaws.{bad_set, too_short, written}
-use borrow.Author.Rules.{rules}
 use Rattle.writer.proofs.writer.write.Goals as goal
 use Rattle.writer.proofs.writer.write.Goals.{Else-not-well_formed}
 
