@@ -2,72 +2,73 @@
 use super::printing::{end_line, print_behind};
 use machine::ScanAnswer;
 use shape::Found;
+use std::io;
 use text::TextPut;
 use verdict::Verdict;
 use writer::Written;
 
-pub fn print_written(mark: u8, written: Written) {
-    print_behind(b' ', writer::number_of(written) as usize);
+pub fn print_written(rt: &impl Print, mark: u8, written: Written) -> io::Result<()> {
+    print_behind(rt, b' ', writer::number_of(written) as usize)?;
     match written {
-        Written::Wrote(length) => print_behind(mark, length),
-        Written::Short(needed) => print_behind(mark, needed),
-        Written::BadSet => {}
+        Written::Wrote(length) => print_behind(rt, mark, length),
+        Written::Short(needed) => print_behind(rt, mark, needed),
+        Written::BadSet => Ok(()),
     }
 }
 
-pub fn print_text_put(mark: u8, put: TextPut) {
-    print_behind(b' ', text::number_of(put) as usize);
+pub fn print_text_put(rt: &impl Print, mark: u8, put: TextPut) -> io::Result<()> {
+    print_behind(rt, b' ', text::number_of(put) as usize)?;
     match put {
-        TextPut::Put(length) => print_behind(mark, length),
-        TextPut::Short(needed) => print_behind(mark, needed),
-        TextPut::BadSet => {}
+        TextPut::Put(length) => print_behind(rt, mark, length),
+        TextPut::Short(needed) => print_behind(rt, mark, needed),
+        TextPut::BadSet => Ok(()),
     }
 }
 
-pub fn print_verdict(mark: u8, v: Verdict) {
-    print_behind(b' ', verdict::number_of(v) as usize);
+pub fn print_verdict(rt: &impl Print, mark: u8, v: Verdict) -> io::Result<()> {
+    print_behind(rt, b' ', verdict::number_of(v) as usize)?;
     match v {
-        Verdict::NoVector { word } => print_behind(mark, word as usize),
+        Verdict::NoVector { word } => print_behind(rt, mark, word as usize),
         Verdict::Clash { word, output } => {
-            print_behind(mark, word as usize);
-            print_behind(mark, output as usize);
+            print_behind(rt, mark, word as usize)?;
+            print_behind(rt, mark, output as usize)
         }
         Verdict::NoEnd { word, request } => {
-            print_behind(mark, word as usize);
-            print_behind(mark, request as usize);
+            print_behind(rt, mark, word as usize)?;
+            print_behind(rt, mark, request as usize)
         }
-        _ => {}
+        _ => Ok(()),
     }
 }
 
 // An item whose kind a byte before the number tells: ! for a refusal.
-fn print_item(kind: u8, number: usize) {
-    io::write_all(1, b" ");
-    print_behind(kind, number);
+fn print_item(rt: &impl Print, kind: u8, number: usize) -> io::Result<()> {
+    rt.write_all(b" ")?;
+    print_behind(rt, kind, number)
 }
 
-pub fn print_scan(answer: ScanAnswer) {
+pub fn print_scan(rt: &impl Print, answer: ScanAnswer) -> io::Result<()> {
     match answer {
         ScanAnswer::Sent { vector, passes } => {
-            print_behind(b' ', vector as usize);
-            print_behind(b'/', passes as usize);
+            print_behind(rt, b' ', vector as usize)?;
+            print_behind(rt, b'/', passes as usize)
         }
-        _ => print_item(b'!', machine::number_of(answer) as usize),
+        _ => print_item(rt, b'!', machine::number_of(answer) as usize),
     }
 }
 
-pub fn print_found(found: Found) {
+pub fn print_found(rt: &impl Print, found: Found) -> io::Result<()> {
     match found {
-        Found::Read(k) => print_item(b'R', k),
-        Found::Output(k) => print_item(b'O', k),
-        _ => print_item(b'!', shape::number_of(found) as usize),
+        Found::Read(k) => print_item(rt, b'R', k),
+        Found::Output(k) => print_item(rt, b'O', k),
+        _ => print_item(rt, b'!', shape::number_of(found) as usize),
     }
 }
 
 // The line of a file that is not loaded.
-pub fn print_refused(number: u8, offset: usize) {
-    io::write_all(1, b"LOAD");
-    print_behind(b' ', number as usize);
-    print_behind(b' ', offset);
-    end_line();
+pub fn print_refused(rt: &impl Print, number: u8, offset: usize) -> io::Result<()> {
+    rt.write_all(b"LOAD")?;
+    print_behind(rt, b' ', number as usize)?;
+    print_behind(rt, b' ', offset)?;
+    end_line(rt)
 }

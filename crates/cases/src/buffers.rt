@@ -5,6 +5,7 @@ use super::printing::{end_line, print_accepted, print_behind, print_sum};
 use super::records::{behind, two_of};
 use line::Line;
 use scan::Set;
+use std::io;
 use verdict::Verdict;
 
 // What the bytes hold before a call.
@@ -58,127 +59,156 @@ fn free_scratch(n: usize, v: Verdict) -> usize {
     }
 }
 
-fn lend_write(set: Set, buf: &mut [u8]) -> Left {
+fn lend_write(rt: &impl Print, set: Set, buf: &mut [u8]) -> io::Result<Left> {
     let written = writer::write(set, buf);
-    print_written(b'/', written);
-    exact()
+    print_written(rt, b'/', written)?;
+    Ok(exact())
 }
 
-fn lend_judge(set: Set, scratch: &mut [u8]) -> Left {
+fn lend_judge(rt: &impl Print, set: Set, scratch: &mut [u8]) -> io::Result<Left> {
     let v = verdict::judge(set, scratch);
-    print_verdict(b'/', v);
+    print_verdict(rt, b'/', v)?;
     let free = free_scratch(set.n, v);
-    Left {
+    Ok(Left {
         free,
         outputs: 0,
         accepted: false,
-    }
+    })
 }
 
-fn lend_start(set: Set, scratch: &mut [u8]) -> Left {
+fn lend_start(rt: &impl Print, set: Set, scratch: &mut [u8]) -> io::Result<Left> {
     let started = start::start(set, scratch);
     let v = started.verdict;
-    print_verdict(b'/', v);
+    print_verdict(rt, b'/', v)?;
     let free = free_scratch(set.n, v);
     let outputs = started.state.set.n;
     let accepted = started.state.accepted;
-    Left {
+    Ok(Left {
         free,
         outputs,
         accepted,
-    }
+    })
 }
 
-fn lend_line(told: Line, buf: &mut [u8]) -> Left {
-    print_behind(b' ', line::put_line(told, buf));
-    exact()
+fn lend_line(rt: &impl Print, told: Line, buf: &mut [u8]) -> io::Result<Left> {
+    print_behind(rt, b' ', line::put_line(told, buf))?;
+    Ok(exact())
 }
 
-fn lend_text(set: Set, buf: &mut [u8]) -> Left {
+fn lend_text(rt: &impl Print, set: Set, buf: &mut [u8]) -> io::Result<Left> {
     let put = text::put_text(set, buf);
-    print_text_put(b'/', put);
-    exact()
+    print_text_put(rt, b'/', put)?;
+    Ok(exact())
 }
 
-fn lend(operation: Operation, set: Set, told: Line, buf: &mut [u8]) -> Left {
+fn lend(
+    rt: &impl Print,
+    operation: Operation,
+    set: Set,
+    told: Line,
+    buf: &mut [u8],
+) -> io::Result<Left> {
     match operation {
-        Operation::Write => lend_write(set, buf),
-        Operation::Judge => lend_judge(set, buf),
-        Operation::Start => lend_start(set, buf),
-        Operation::Line => lend_line(told, buf),
-        Operation::Text => lend_text(set, buf),
+        Operation::Write => lend_write(rt, set, buf),
+        Operation::Judge => lend_judge(rt, set, buf),
+        Operation::Start => lend_start(rt, set, buf),
+        Operation::Line => lend_line(rt, told, buf),
+        Operation::Text => lend_text(rt, set, buf),
     }
 }
 
 // The operation with the first `len` bytes of the arena: the answer, and the sum of the bytes whose content is told.
-fn print_lent(operation: Operation, set: Set, told: Line, arena: &mut [u8], len: usize) {
+fn print_lent(
+    rt: &impl Print,
+    operation: Operation,
+    set: Set,
+    told: Line,
+    arena: &mut [u8],
+    len: usize,
+) -> io::Result<()> {
     if len <= arena.len() {
-        let left = lend(operation, set, told, &mut arena[0..len]);
-        print_sum(b':', behind(&*arena, left.free));
+        let left = lend(rt, operation, set, told, &mut arena[0..len])?;
+        print_sum(rt, b':', behind(&*arena, left.free))?;
         if let Operation::Start = operation {
-            print_behind(b'=', left.outputs);
-            print_accepted(b'/', left.accepted);
+            print_behind(rt, b'=', left.outputs)?;
+            print_accepted(rt, b'/', left.accepted)?;
         }
     }
+    Ok(())
 }
 
 // The operation with so many bytes, 16 more behind them; more than the most have no item.
-fn print_size(operation: Operation, set: Set, told: Line, len: usize) {
+fn print_size(
+    rt: &impl Print,
+    operation: Operation,
+    set: Set,
+    told: Line,
+    len: usize,
+) -> io::Result<()> {
     let mut arena = [FILL; ARENA];
     if len <= MOST_SIZE {
-        print_lent(operation, set, told, &mut arena[0..len + BEHIND], len);
+        print_lent(rt, operation, set, told, &mut arena[0..len + BEHIND], len)?;
     }
+    Ok(())
 }
 
 // The operation with each size of a sizes record.
-fn print_sizes(operation: Operation, set: Set, told: Line, sizes: &[u8]) {
+fn print_sizes(
+    rt: &impl Print,
+    operation: Operation,
+    set: Set,
+    told: Line,
+    sizes: &[u8],
+) -> io::Result<()> {
     let mut i: usize = 0;
     while SIZE_BYTES <= sizes.len() - i {
-        print_size(operation, set, told, two_of(behind(sizes, i)) as usize);
+        print_size(rt, operation, set, told, two_of(behind(sizes, i)) as usize)?;
         i = i + SIZE_BYTES;
     }
-    end_line();
+    end_line(rt)
 }
 
 // The verdict with the first `len` bytes of the arena as scratch, and the sum of the bytes whose content is told.
-fn print_judged_in(set: Set, arena: &mut [u8], len: usize) {
+fn print_judged_in(rt: &impl Print, set: Set, arena: &mut [u8], len: usize) -> io::Result<()> {
     if len <= arena.len() {
-        let left = lend_judge(set, &mut arena[0..len]);
-        print_sum(b':', behind(&*arena, left.free));
+        let left = lend_judge(rt, set, &mut arena[0..len])?;
+        print_sum(rt, b':', behind(&*arena, left.free))?;
     }
+    Ok(())
 }
 
 // The verdict with so many bytes of scratch, 16 more behind them.
-fn print_judged_with(set: Set, len: usize) {
+fn print_judged_with(rt: &impl Print, set: Set, len: usize) -> io::Result<()> {
     let mut arena = [FILL; MOST_SCRATCH + BEHIND];
     if len <= MOST_SCRATCH {
-        print_judged_in(set, &mut arena[0..len + BEHIND], len);
+        print_judged_in(rt, set, &mut arena[0..len + BEHIND], len)?;
     }
+    Ok(())
 }
 
 // The bytes of scratch that the verdict on a set needs; the verdict with just as many, and with one less.
-pub fn print_scratch(set: Set) {
+pub fn print_scratch(rt: &impl Print, set: Set) -> io::Result<()> {
     let bytes = verdict::scratch_bytes(set.n);
-    io::write_all(1, b"SCRATCH");
-    print_behind(b' ', bytes);
-    print_judged_with(set, bytes);
+    rt.write_all(b"SCRATCH")?;
+    print_behind(rt, b' ', bytes)?;
+    print_judged_with(rt, set, bytes)?;
     if 0 < bytes {
-        print_judged_with(set, bytes - 1);
+        print_judged_with(rt, set, bytes - 1)?;
     }
-    end_line();
+    end_line(rt)
 }
 
 // Every operation of a loaded set, whose file this is, with each size.
-pub fn print_buffers(set: Set, file: &[u8], sizes: &[u8]) {
+pub fn print_buffers(rt: &impl Print, set: Set, file: &[u8], sizes: &[u8]) -> io::Result<()> {
     let told = line_of(file);
-    io::write_all(1, b"WRITES");
-    print_sizes(Operation::Write, set, told, sizes);
-    io::write_all(1, b"JUDGES");
-    print_sizes(Operation::Judge, set, told, sizes);
-    io::write_all(1, b"STARTS");
-    print_sizes(Operation::Start, set, told, sizes);
-    io::write_all(1, b"LINES");
-    print_sizes(Operation::Line, set, told, sizes);
-    io::write_all(1, b"TEXTS");
-    print_sizes(Operation::Text, set, told, sizes);
+    rt.write_all(b"WRITES")?;
+    print_sizes(rt, Operation::Write, set, told, sizes)?;
+    rt.write_all(b"JUDGES")?;
+    print_sizes(rt, Operation::Judge, set, told, sizes)?;
+    rt.write_all(b"STARTS")?;
+    print_sizes(rt, Operation::Start, set, told, sizes)?;
+    rt.write_all(b"LINES")?;
+    print_sizes(rt, Operation::Line, set, told, sizes)?;
+    rt.write_all(b"TEXTS")?;
+    print_sizes(rt, Operation::Text, set, told, sizes)
 }

@@ -10,6 +10,7 @@ use super::texts::print_text;
 use line::Line;
 use scan::Set;
 use start::Started;
+use std::io;
 use verdict::Verdict;
 use writer::Written;
 
@@ -27,18 +28,19 @@ fn least(a: usize, b: usize) -> usize
 
 // The verdict program's line of a file.
 pub fn line_of(file: &[u8]) -> Line {
-    let mut scratch = io::buffer();
+    let mut scratch = bytes_io::buffer();
     let n = least(file.len(), MOST_JUDGED);
     line::judge_file(&file[0..n], &mut scratch)
 }
 
-pub fn print_line(file: &[u8]) {
+pub fn print_line(rt: &impl Print, file: &[u8]) -> io::Result<()> {
     let mut out = [0u8; 80];
-    io::write_all(1, b"JUDGE ");
+    rt.write_all(b"JUDGE ")?;
     let len = line::put_line(line_of(file), &mut out);
     if len <= 80 {
-        io::write_all(1, &out[0..len]);
+        rt.write_all(&out[0..len])?;
     }
+    Ok(())
 }
 
 // Whether the two have the same bytes.
@@ -58,53 +60,52 @@ fn is_same(a: &[u8], b: &[u8]) -> bool {
 }
 
 // Whether the file, written into a buffer with this length, is the one that was loaded.
-fn print_same(buf: &[u8], length: usize, file: &[u8]) {
-    print_behind(b' ', length);
+fn print_same(rt: &impl Print, buf: &[u8], length: usize, file: &[u8]) -> io::Result<()> {
+    print_behind(rt, b' ', length)?;
     if length <= buf.len() {
         if is_same(&buf[0..length], file) {
-            io::write_all(1, b" same\n");
-            return;
+            return rt.write_all(b" same\n");
         }
     }
-    io::write_all(1, b" differs\n");
+    rt.write_all(b" differs\n")
 }
 
-fn print_rewritten(set: Set, file: &[u8]) {
+fn print_rewritten(rt: &impl Print, set: Set, file: &[u8]) -> io::Result<()> {
     let mut buf = [0u8; MOST_FILE];
-    io::write_all(1, b"WRITE");
+    rt.write_all(b"WRITE")?;
     let written = writer::write(set, &mut buf);
     match written {
-        Written::Wrote(length) => print_same(&buf, length, file),
+        Written::Wrote(length) => print_same(rt, &buf, length, file),
         _ => {
-            print_written(b'/', written);
-            end_line();
+            print_written(rt, b'/', written)?;
+            end_line(rt)
         }
     }
 }
 
 // The line of a set that the start rejects.
-fn print_rejected(v: Verdict) {
+fn print_rejected(rt: &impl Print, v: Verdict) -> io::Result<()> {
     match v {
         Verdict::NoVector { word } => {
-            io::write_all(1, b"NOVECTOR");
-            print_behind(b' ', word as usize);
+            rt.write_all(b"NOVECTOR")?;
+            print_behind(rt, b' ', word as usize)?;
         }
         Verdict::Clash { word, output } => {
-            io::write_all(1, b"CLASH");
-            print_behind(b' ', word as usize);
-            print_behind(b' ', output as usize);
+            rt.write_all(b"CLASH")?;
+            print_behind(rt, b' ', word as usize)?;
+            print_behind(rt, b' ', output as usize)?;
         }
         Verdict::NoEnd { word, request } => {
-            io::write_all(1, b"NOEND");
-            print_behind(b' ', word as usize);
-            print_behind(b' ', request as usize);
+            rt.write_all(b"NOEND")?;
+            print_behind(rt, b' ', word as usize)?;
+            print_behind(rt, b' ', request as usize)?;
         }
         _ => {
-            io::write_all(1, b"START");
-            print_verdict(b'/', v);
+            rt.write_all(b"START")?;
+            print_verdict(rt, b'/', v)?;
         }
     }
-    end_line();
+    end_line(rt)
 }
 
 // The start with just the scratch that the verdict needs.
@@ -115,28 +116,28 @@ fn start_exact(set: Set) -> Started {
 }
 
 // The verdict of the start and, if the set is accepted, the scans.
-fn print_started(set: Set, calls: &[u8]) {
+fn print_started(rt: &impl Print, set: Set, calls: &[u8]) -> io::Result<()> {
     let started = start_exact(set);
     let v = started.verdict;
     match v {
         Verdict::Accepted => {
-            io::write_all(1, b"ACCEPT\nSCANS");
-            print_list(started.state, calls);
+            rt.write_all(b"ACCEPT\nSCANS")?;
+            print_list(rt, started.state, calls)
         }
-        _ => print_rejected(v),
+        _ => print_rejected(rt, v),
     }
 }
 
 // What is answered of a loaded set, whose file this is.
-pub fn print_file(set: Set, file: &[u8], calls: &[u8]) {
-    io::write_all(1, b"LOADED");
-    print_behind(b' ', set.r);
-    print_behind(b' ', set.n);
-    print_behind(b' ', set.m);
-    end_line();
-    print_rewritten(set, file);
-    print_own_names(set);
-    print_text(set);
-    print_scratch(set);
-    print_started(set, calls);
+pub fn print_file(rt: &impl Print, set: Set, file: &[u8], calls: &[u8]) -> io::Result<()> {
+    rt.write_all(b"LOADED")?;
+    print_behind(rt, b' ', set.r)?;
+    print_behind(rt, b' ', set.n)?;
+    print_behind(rt, b' ', set.m)?;
+    end_line(rt)?;
+    print_rewritten(rt, set, file)?;
+    print_own_names(rt, set)?;
+    print_text(rt, set)?;
+    print_scratch(rt, set)?;
+    print_started(rt, set, calls)
 }

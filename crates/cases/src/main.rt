@@ -17,6 +17,8 @@ use answers::print_refused;
 use loader::LoadAnswer;
 use records::record;
 use scan::Set;
+use std::io;
+use std::io::Read;
 
 // The kinds of cases: a file and scans, a file and a state, a file and names, a file and sizes of buffers; and a set with a state and names.
 const FILE: u8 = b'F';
@@ -33,82 +35,84 @@ const SET: u8 = b'R';
 const MOST_CASES: u32 = 1000000;
 
 // What is answered of a loaded set, whose file this is, with the other record of the case.
-fn print_loaded(kind: u8, set: Set, file: &[u8], more: &[u8]) {
+fn print_loaded(rt: &impl Print, kind: u8, set: Set, file: &[u8], more: &[u8]) -> io::Result<()> {
     match kind {
-        FILE => files::print_file(set, file, more),
-        STATE => states::print_state(set, more),
-        NAMES => names::print_names(set, more),
-        _ => buffers::print_buffers(set, file, more),
+        FILE => files::print_file(rt, set, file, more),
+        STATE => states::print_state(rt, set, more),
+        NAMES => names::print_names(rt, set, more),
+        _ => buffers::print_buffers(rt, set, file, more),
     }
 }
 
-fn print_case_of(kind: u8, file: &[u8], more: &[u8]) {
+fn print_case_of(rt: &impl Print, kind: u8, file: &[u8], more: &[u8]) -> io::Result<()> {
     if kind == FILE {
-        files::print_line(file);
+        files::print_line(rt, file)?;
     }
     let loaded = loader::load(file);
     let answer = loaded.answer;
     match answer {
-        LoadAnswer::Refused { number, offset } => print_refused(number, offset),
-        LoadAnswer::Loaded => print_loaded(kind, loaded.set, file, more),
+        LoadAnswer::Refused { number, offset } => print_refused(rt, number, offset),
+        LoadAnswer::Loaded => print_loaded(rt, kind, loaded.set, file, more),
     }
 }
 
 // A case of a file and another record; whether both were there.
-fn print_file_case(kind: u8) -> bool {
-    let mut file = io::large_buffer();
-    let mut more = io::buffer();
-    let n = record(&mut file);
-    let m = record(&mut more);
+fn print_file_case<R: Read>(rt: &impl Print, input: &mut R, kind: u8) -> io::Result<bool> {
+    let mut file = bytes_io::large_buffer();
+    let mut more = bytes_io::buffer();
+    let n = record(&mut *input, &mut file);
+    let m = record(input, &mut more);
     if n <= 65535 {
         if m <= 4096 {
-            print_case_of(kind, &file[0..n], &more[0..m]);
-            return true;
+            print_case_of(rt, kind, &file[0..n], &more[0..m])?;
+            return Ok(true);
         }
     }
-    false
+    Ok(false)
 }
 
 // A case of a set, words and names; whether all were there.
-fn print_set_case() -> bool {
-    let mut set = io::buffer();
-    let mut words = io::buffer();
-    let mut names = io::buffer();
-    let s = record(&mut set);
-    let w = record(&mut words);
-    let n = record(&mut names);
+fn print_set_case<R: Read>(rt: &impl Print, input: &mut R) -> io::Result<bool> {
+    let mut set = bytes_io::buffer();
+    let mut words = bytes_io::buffer();
+    let mut names = bytes_io::buffer();
+    let s = record(&mut *input, &mut set);
+    let w = record(&mut *input, &mut words);
+    let n = record(input, &mut names);
     if s == sets::SET_BYTES {
         if w <= 4096 {
             if n <= 4096 {
-                sets::print_set(&set[0..s], &words[0..w], &names[0..n]);
-                return true;
+                sets::print_set(rt, &set[0..s], &words[0..w], &names[0..n])?;
+                return Ok(true);
             }
         }
     }
-    false
+    Ok(false)
 }
 
 // The next case; whether there was one.
-fn print_case() -> bool {
+fn print_case<R: Read>(rt: &impl Print, input: &mut R) -> io::Result<bool> {
     let mut kind = [0u8; 1];
-    if io::read_full(0, &mut kind) < 1 {
-        return false;
+    if bytes_io::read_full(&mut *input, &mut kind) < 1 {
+        return Ok(false);
     }
     match kind[0] {
-        FILE | STATE | NAMES | BUFFERS => print_file_case(kind[0]),
-        SET => print_set_case(),
-        _ => false,
+        FILE | STATE | NAMES | BUFFERS => print_file_case(rt, input, kind[0]),
+        SET => print_set_case(rt, input),
+        _ => Ok(false),
     }
 }
 
-fn main() {
-    hand::print_all();
+fn main(rt: HostRuntime) -> io::Result<()> {
+    let mut input = rt.reader();
+    hand::print_all(&rt)?;
     let mut left = MOST_CASES;
     while 0 < left {
-        if print_case() {
+        if print_case(&rt, &mut input)? {
             left = left - 1;
         } else {
             left = 0;
         }
     }
+    Ok(())
 }

@@ -1,4 +1,5 @@
 // Reading a corpus: its records, and the numbers in them, high byte first.
+use std::io::Read;
 
 // More than a record has.
 const NO_RECORD: usize = 65536;
@@ -10,16 +11,16 @@ pub const PAIR: usize = 6;
 pub const STATE_BYTES: usize = 7;
 
 // The next record at the front of the buffer, and its length; more than 65,535 where the input ends before the record does, or the buffer.
-pub fn record(buf: &mut [u8]) -> usize {
+pub fn record<R: Read>(input: &mut R, buf: &mut [u8]) -> usize {
     let mut head = [0u8; 2];
-    if io::read_full(0, &mut head) < 2 {
+    if bytes_io::read_full(&mut *input, &mut head) < 2 {
         return NO_RECORD;
     }
     let len = two_of(&head) as usize;
     if buf.len() < len {
         return NO_RECORD;
     }
-    if io::read_full(0, &mut buf[0..len]) < len {
+    if bytes_io::read_full(input, &mut buf[0..len]) < len {
         return NO_RECORD;
     }
     len

@@ -9,6 +9,7 @@ use scan::{
     Constraint, Kind, MOST_CONSTRAINTS, MOST_OUTPUTS, MOST_READS, NAME_PLACES, OutputPoint,
     ReadPoint, Set,
 };
+use std::io;
 use writer::Written;
 
 // The bytes of a set, of a read point and of a constraint, and where the read points, the outputs and the constraints begin.
@@ -145,32 +146,32 @@ fn set_of(bytes: &[u8]) -> Set {
 }
 
 // Writing's answer and, where the set has a file, the sum of the whole buffer, in which a file of more bytes leaves its zeros.
-fn print_file_of(set: Set) {
-    let mut buf = io::buffer();
+fn print_file_of(rt: &impl Print, set: Set) -> io::Result<()> {
+    let mut buf = bytes_io::buffer();
     let written = writer::write(set, &mut buf);
-    print_written(b'/', written);
+    print_written(rt, b'/', written)?;
     match written {
-        Written::BadSet => {}
-        _ => print_sum(b':', &buf),
+        Written::BadSet => Ok(()),
+        _ => print_sum(rt, b':', &buf),
     }
 }
 
-fn print_verdict_of(set: Set) {
-    let mut scratch = io::buffer();
-    print_verdict(b'/', verdict::judge(set, &mut scratch));
+fn print_verdict_of(rt: &impl Print, set: Set) -> io::Result<()> {
+    let mut scratch = bytes_io::buffer();
+    print_verdict(rt, b'/', verdict::judge(set, &mut scratch))
 }
 
 // What is answered of any set.
-fn print_any(set: Set, words: &[u8], names: &[u8]) {
-    io::write_all(1, b"SET");
-    print_file_of(set);
-    print_verdict_of(set);
-    print_text_of(set);
-    end_line();
-    print_names(set, names);
-    print_state(set, words);
+fn print_any(rt: &impl Print, set: Set, words: &[u8], names: &[u8]) -> io::Result<()> {
+    rt.write_all(b"SET")?;
+    print_file_of(rt, set)?;
+    print_verdict_of(rt, set)?;
+    print_text_of(rt, set)?;
+    end_line(rt)?;
+    print_names(rt, set, names)?;
+    print_state(rt, set, words)
 }
 
-pub fn print_set(bytes: &[u8], words: &[u8], names: &[u8]) {
-    print_any(set_of(bytes), words, names);
+pub fn print_set(rt: &impl Print, bytes: &[u8], words: &[u8], names: &[u8]) -> io::Result<()> {
+    print_any(rt, set_of(bytes), words, names)
 }

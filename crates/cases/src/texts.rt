@@ -2,6 +2,7 @@
 use super::answers::print_text_put;
 use super::printing::{end_line, print_behind, print_sum};
 use scan::Set;
+use std::io;
 use text::TextPut;
 
 // Room for the text of any set.
@@ -11,41 +12,44 @@ const MOST_TEXT: usize = 40000;
 const MOST_SHOWN: usize = 600;
 
 // The length and the sum of a text, and the text itself if it is short.
-fn print_shown(text: &[u8]) {
-    print_behind(b' ', text.len());
-    print_sum(b' ', text);
-    end_line();
+fn print_shown(rt: &impl Print, text: &[u8]) -> io::Result<()> {
+    print_behind(rt, b' ', text.len())?;
+    print_sum(rt, b' ', text)?;
+    end_line(rt)?;
     if text.len() <= MOST_SHOWN {
-        io::write_all(1, text);
+        rt.write_all(text)?;
     }
+    Ok(())
 }
 
-fn print_front(buf: &[u8], length: usize) {
+fn print_front(rt: &impl Print, buf: &[u8], length: usize) -> io::Result<()> {
     if length <= buf.len() {
-        print_shown(&buf[0..length]);
+        print_shown(rt, &buf[0..length])?;
     }
+    Ok(())
 }
 
 // The line of a set's text, and the text.
-pub fn print_text(set: Set) {
+pub fn print_text(rt: &impl Print, set: Set) -> io::Result<()> {
     let mut buf = [0u8; MOST_TEXT];
-    io::write_all(1, b"TEXT");
+    rt.write_all(b"TEXT")?;
     let put = text::put_text(set, &mut buf);
     match put {
-        TextPut::Put(length) => print_front(&buf, length),
+        TextPut::Put(length) => print_front(rt, &buf, length),
         _ => {
-            print_text_put(b'/', put);
-            end_line();
+            print_text_put(rt, b'/', put)?;
+            end_line(rt)
         }
     }
 }
 
 // The answer for any set and, where there is a text, the sum of the whole buffer.
-pub fn print_text_of(set: Set) {
+pub fn print_text_of(rt: &impl Print, set: Set) -> io::Result<()> {
     let mut buf = [0u8; MOST_TEXT];
     let put = text::put_text(set, &mut buf);
-    print_text_put(b'/', put);
+    print_text_put(rt, b'/', put)?;
     if let TextPut::Put(_) = put {
-        print_sum(b':', &buf);
+        print_sum(rt, b':', &buf)?;
     }
+    Ok(())
 }

@@ -1,12 +1,13 @@
 // The program that shows a set file: loads the first 8,192 bytes of standard input and prints the text of the set, or the line of the refusal.
 #![tactic(auto)]
 
-use libc::{STDIN_FILENO, STDOUT_FILENO};
+use std::io;
 
-fn main() {
+fn main(rt: HostRuntime) -> io::Result<()> {
     let mut file = [0u8; 8192];
-    let n = io::read_full(STDIN_FILENO, &mut file);
-    let mut out = io::large_buffer();
+    let mut input = rt.reader();
+    let n = bytes_io::read_full(&mut input, &mut file);
+    let mut out = bytes_io::large_buffer();
     let len = shown::show_file(&file[..n], &mut out);
-    io::write_all(STDOUT_FILENO, &out[..len]);
+    rt.write_all(&out[..len])
 }

@@ -7,6 +7,8 @@ ghost use Rattle.std.specs.Prelude.{◌<◌};
 use loader::LoadAnswer;
 use machine::ScanAnswer;
 use scan::{MOST_CONSTRAINTS, MOST_OUTPUTS, Set, State};
+use std::io;
+use std::io::Read;
 use verdict::Verdict;
 use writer::Written;
 
@@ -123,20 +125,20 @@ fn scan_often(start: State, times: u32, calls: &[u8]) -> u32 {
     sum
 }
 
-// The next bytes of standard input at the front of the buffer.
-fn fill(buf: &mut [u8], len: usize) {
+// The next bytes of the input at the front of the buffer.
+fn fill<R: Read>(input: &mut R, buf: &mut [u8], len: usize) {
     if len <= buf.len() {
-        io::read_full(0, &mut buf[0..len]);
+        bytes_io::read_full(input, &mut buf[0..len]);
     }
 }
 
-// The scans that follow on standard input, from the set's start.
-fn scan_set(set: Set, times: u32, scratch: &mut [u8]) -> u32 {
+// The scans that follow on the input, from the set's start.
+fn scan_set<R: Read>(input: &mut R, set: Set, times: u32, scratch: &mut [u8]) -> u32 {
     let mut head = [0u8; 2];
-    let mut calls = io::buffer();
-    io::read_full(0, &mut head);
+    let mut calls = bytes_io::buffer();
+    bytes_io::read_full(&mut *input, &mut head);
     let len = two(head[0], head[1]) as usize * SCAN_BYTES;
-    fill(&mut calls, len);
+    fill(input, &mut calls, len);
     let started = start::start(set, scratch);
     let state = started.state;
     if len <= 4096 {
@@ -205,19 +207,19 @@ fn text_often(set: Set, times: u32, buf: &mut [u8]) -> u32 {
 
 // With room for the text of any set.
 fn text_set(set: Set, times: u32) -> u32 {
-    let mut buf = io::large_buffer();
+    let mut buf = bytes_io::large_buffer();
     text_often(set, times, &mut buf)
 }
 
-fn do_often(operation: u8, times: u32, file: &[u8]) -> u32 {
-    let mut lent = io::buffer();
+fn do_often<R: Read>(input: &mut R, operation: u8, times: u32, file: &[u8]) -> u32 {
+    let mut lent = bytes_io::buffer();
     let loaded = loader::load(file);
     let set = loaded.set;
     if operation == JUDGE {
         return judge_often(set, times, &mut lent);
     }
     if operation == SCAN {
-        return scan_set(set, times, &mut lent);
+        return scan_set(input, set, times, &mut lent);
     }
     if operation == LOAD {
         return load_often(file, times);
@@ -231,16 +233,17 @@ fn do_often(operation: u8, times: u32, file: &[u8]) -> u32 {
     0
 }
 
-fn main() {
+fn main(rt: HostRuntime) -> io::Result<()> {
+    let mut input = rt.reader();
     let mut head = [0u8; 7];
     let mut file = [0u8; MOST_FILE];
-    io::read_full(0, &mut head);
+    bytes_io::read_full(&mut input, &mut head);
     let times = four(head[1], head[2], head[3], head[4]);
     let len = two(head[5], head[6]) as usize;
-    fill(&mut file, len);
+    fill(&mut input, &mut file, len);
     if len <= MOST_FILE {
-        let sum = do_often(head[0], times, &file[0..len]);
-        io::print_decimal(1, sum as u64);
-        io::write_all(1, b"\n");
+        let sum = do_often(&mut input, head[0], times, &file[0..len]);
+        println!(rt; "{sum}")?;
     }
+    Ok(())
 }

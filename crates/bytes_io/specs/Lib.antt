@@ -1,0 +1,2 @@
+-- What the contracts of `bytes_io` cite.
+pub mod Counts
