@@ -45,3 +45,4 @@ pub mod TextRefusals
 pub mod FirmwareSays
 pub mod Kept
 pub mod LinesSay
+pub mod CasesHold

@@ -19,3 +19,4 @@ pub mod FilesOfToday
 pub mod OneWord
 pub mod Promise
 pub mod Lines
+pub mod Cases

@@ -27,7 +27,7 @@ use Rattle.writer.specs.Write.{fields_of, rest_field, write_of, literals_by, rea
 use Rattle.decimal.specs.Decimal.{leading, decimal}
 use Rattle.text.specs.Text.{rest_line, read_literal, output_literal, never_line, shown_lines, spaced_words, lines_text, text_of}
 use Rattle.promise.specs.Clash.{judge_unnamed}
-use Rattle.worked.specs.Cases.{AllAnswered, starred, further, order_cases, rest_cases, scratch_cases, clash_cases, twenty_cases, scan_cases, find_cases, text_cases}
+use Rattle.promise.specs.Cases.{AllAnswered, starred, further, order_cases, rest_cases, scratch_cases, clash_cases, twenty_cases, scan_cases, find_cases, text_cases}
 
 pub starred_hold : AllAnswered starred
 unfolding ones_in odd bit without meets popcount gather bit_if word some all first_from first zero_set constraint kind name_byte name_length place_ok name_ok
