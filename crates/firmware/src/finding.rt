@@ -40,8 +40,7 @@ fn find_result(found: Found) -> FindResult
 }
 
 // The point of the file's set that has the name.
-#[unsafe(no_mangle)]
-pub extern "C" fn rsf_find<'a>(file: &'a [u8], name: &'a [u8]) -> FindResult
+pub fn rsf_find<'a>(file: &'a [u8], name: &'a [u8]) -> FindResult
     ensures { result ≡ find_file file.now name.now }
 {
     let loaded = load(file);

@@ -52,8 +52,7 @@ pub fn verdict_result(verdict: Verdict) -> VerdictResult
 }
 
 // The verdict on the file's set, with scratch of one bit for each vector.
-#[unsafe(no_mangle)]
-pub extern "C" fn rsf_judge(file: &[u8], scratch: &mut [u8]) -> VerdictResult
+pub fn rsf_judge(file: &[u8], scratch: &mut [u8]) -> VerdictResult
     ensures value { result ≡ judge_file file.now (length scratch.old) }
     ensures scratch_unchanged { drop (loose_bytes (set_in file.now) (length scratch.old)) scratch.new ≡ drop (loose_bytes (set_in file.now) (length scratch.old)) scratch.old }
 {

@@ -44,8 +44,7 @@ pub fn load_result(answer: LoadAnswer, set: Set) -> LoadResult
 }
 
 // Whether the file loads, and the counts of its set.
-#[unsafe(no_mangle)]
-pub extern "C" fn rsf_load(file: &[u8]) -> LoadResult
+pub fn rsf_load(file: &[u8]) -> LoadResult
     ensures { result ≡ load_file file.now }
 {
     let loaded = load(file);

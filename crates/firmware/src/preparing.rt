@@ -13,8 +13,7 @@ use machine::scan;
 use prepared::{PREPARED_BYTES, put_set, set_said};
 
 // Whether the file loads, and the counts of its set; the bytes of the set are put into all places of what is lent.
-#[unsafe(no_mangle)]
-pub extern "C" fn rsf_prepare(file: &[u8], prepared: &mut [u8; PREPARED_BYTES]) -> LoadResult
+pub fn rsf_prepare(file: &[u8], prepared: &mut [u8; PREPARED_BYTES]) -> LoadResult
     ensures value { result ≡ load_file file.now }
     ensures prepared_after { prepared.new ≡ bytes_of (set_in file.now) }
 {
@@ -25,8 +24,7 @@ pub extern "C" fn rsf_prepare(file: &[u8], prepared: &mut [u8; PREPARED_BYTES]) 
 }
 
 // One scan, with the past, of the set that the bytes say.
-#[unsafe(no_mangle)]
-pub extern "C" fn rsf_scan_prepared(
+pub fn rsf_scan_prepared(
     prepared: &[u8; PREPARED_BYTES],
     past: Past,
     sensor: u32,

@@ -46,8 +46,7 @@ pub fn scanned_result(scanned: Scanned) -> ScanResult
 }
 
 // One scan of the file's set with the past.
-#[unsafe(no_mangle)]
-pub extern "C" fn rsf_scan(file: &[u8], past: Past, sensor: u32, request: u16) -> ScanResult
+pub fn rsf_scan(file: &[u8], past: Past, sensor: u32, request: u16) -> ScanResult
     ensures { result ≡ scan_file file.now past sensor request }
 {
     let loaded = load(file);

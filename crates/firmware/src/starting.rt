@@ -27,8 +27,7 @@ fn start_result(started: Started) -> StartResult
 }
 
 // The verdict on the file's set, and the past for the first scan if it is accepted.
-#[unsafe(no_mangle)]
-pub extern "C" fn rsf_start(file: &[u8], scratch: &mut [u8]) -> StartResult
+pub fn rsf_start(file: &[u8], scratch: &mut [u8]) -> StartResult
     ensures value { result ≡ start_file file.now (length scratch.old) }
     ensures scratch_unchanged { drop (loose_bytes (set_in file.now) (length scratch.old)) scratch.new ≡ drop (loose_bytes (set_in file.now) (length scratch.old)) scratch.old }
 {
