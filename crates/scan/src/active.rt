@@ -17,10 +17,8 @@ pub fn active_at<'a>(
 {
     let end = least(m, MOST_CONSTRAINTS);
     let mut active: u64 = 0;
-    let mut i: usize = 0;
-    while i < end {
-        active = active | keep64(w & named[i] == plain[i], 1u64 << i);
-        i = i + 1;
+    for i in 0..end {
+        active |= keep64(w & named[i] == plain[i], 1 << i);
     }
     active
 }

@@ -28,10 +28,8 @@ fn active_low<'a>(
     let end = least(m, MOST_CONSTRAINTS);
     let low = w % 8;
     let mut active: u64 = 0;
-    let mut i: usize = 0;
-    while i < end {
-        active = active | keep64(low & named[i] % 8 == plain[i] % 8, 1u64 << i);
-        i = i + 1;
+    for i in 0..end {
+        active |= keep64(low & named[i] % 8 == plain[i] % 8, 1 << i);
     }
     active
 }
@@ -48,10 +46,8 @@ pub fn active_high<'a>(
     let end = least(m, MOST_CONSTRAINTS);
     let high = w / 8;
     let mut active: u64 = 0;
-    let mut i: usize = 0;
-    while i < end {
-        active = active | keep64(high & named[i] / 8 == plain[i] / 8, 1u64 << i);
-        i = i + 1;
+    for i in 0..end {
+        active |= keep64(high & named[i] / 8 == plain[i] / 8, 1 << i);
     }
     active
 }
@@ -65,10 +61,8 @@ pub fn lows_of<'a>(
     ensures { result.of ≡ lows_of plain.now named.now m }
 {
     let mut of = [0u64; WORDS];
-    let mut w: u32 = 0;
-    while w < 8 {
+    for w in 0..8u32 {
         of[w as usize] = active_low(plain, named, m, w);
-        w = w + 1;
     }
     Lows { of }
 }

@@ -28,15 +28,13 @@ pub fn columns_of(set: Set) -> Columns
     let mut out_plain = [0u16; MOST_CONSTRAINTS];
     let mut out_negated = [0u16; MOST_CONSTRAINTS];
     let mut simple: u64 = 0;
-    let mut i: usize = 0;
-    while i < m {
+    for i in 0..m {
         let c = set.constraints[i];
         read_plain[i] = c.read_plain;
         read_named[i] = c.read_plain | c.read_negated;
         out_plain[i] = c.out_plain;
         out_negated[i] = c.out_negated;
-        simple = simple | keep64(is_simple(c), 1u64 << i);
-        i = i + 1;
+        simple |= keep64(is_simple(c), 1 << i);
     }
     Columns {
         read_plain,

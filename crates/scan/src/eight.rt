@@ -51,14 +51,12 @@ pub fn eight_of<'a>(
     let mut high_plain = [0u16; MOST_CONSTRAINTS];
     let mut high_named = [0u16; MOST_CONSTRAINTS];
     let mut low = [0u16; MOST_CONSTRAINTS];
-    let mut i: usize = 0;
-    while i < end {
+    for i in 0..end {
         let p = plain[i];
         let q = named[i];
         high_plain[i] = p / 8;
         high_named[i] = q / 8;
         low[i] = low_true(p, q);
-        i = i + 1;
     }
     Eight {
         plain: high_plain,

@@ -27,16 +27,14 @@ pub fn enter<'a>(
     let mut asked = [NEVER; MOST_CONSTRAINTS];
     let mut named = [0u16; MOST_CONSTRAINTS];
     let mut count: usize = 0;
-    let mut i: usize = 0;
-    while i < end {
+    for i in 0..end {
         let on = words::bit64(i, entered);
         let p = plain[i];
         let q = negated[i];
-        i = i + 1;
         if on {
             asked[count] = p;
             named[count] = p | q;
-            count = count + 1;
+            count += 1;
         }
     }
     Entries {

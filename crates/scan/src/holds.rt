@@ -25,12 +25,10 @@ const BITS: u16 = 16;
 fn lowest_both(f0: u16, f1: u16) -> u16
     ensures { result ≡ first 16 (both_ways f0 f1) }
 {
-    let mut k: u16 = 0;
-    while k < BITS {
+    for k in 0..BITS {
         if both(words::bit16(k as usize, f0), words::bit16(k as usize, f1)) {
             return k;
         }
-        k = k + 1;
     }
     BITS
 }
@@ -59,12 +57,10 @@ pub fn hold_by<'a>(
     let end = least(m, MOST_CONSTRAINTS);
     let mut f0: u16 = 0;
     let mut f1: u16 = 0;
-    let mut i: usize = 0;
-    while i < end {
+    for i in 0..end {
         let held = words::bit64(i, holding);
-        f0 = f0 | keep16(held, plain[i]);
-        f1 = f1 | keep16(held, negated[i]);
-        i = i + 1;
+        f0 |= keep16(held, plain[i]);
+        f1 |= keep16(held, negated[i]);
     }
     reckon(f0, f1)
 }

@@ -16,10 +16,8 @@ fn lowest_rank(c: Constraint, own: u16, n: usize) -> u16
     ensures { result ≡ lowest c own n }
 {
     let mut low: u16 = NO_RANK;
-    let mut k: usize = 0;
-    while k < n {
+    for k in 0..n {
         low = pick16(words::bit16(k, own), least16(low, c.ranks[k] as u16), low);
-        k = k + 1;
     }
     low
 }
@@ -29,10 +27,7 @@ fn yield_at(c: Constraint, own: u16, low: u16, k: usize) -> u16
     requires { k < most_outputs }
     ensures { result ≡ cond (has_rank c own low k) (2 ^ k) 0 }
 {
-    keep16(
-        both(words::bit16(k, own), c.ranks[k] as u16 == low),
-        1u16 << k,
-    )
+    keep16(both(words::bit16(k, own), c.ranks[k] as u16 == low), 1 << k)
 }
 
 // The outputs of `own`, of n, of the lowest rank among them.
@@ -42,10 +37,8 @@ pub fn yielding_of(n: usize, c: Constraint, own: u16) -> u16
 {
     let low = lowest_rank(c, own, n);
     let mut out: u16 = 0;
-    let mut k: usize = 0;
-    while k < n {
-        out = out | yield_at(c, own, low, k);
-        k = k + 1;
+    for k in 0..n {
+        out |= yield_at(c, own, low, k);
     }
     out
 }

@@ -10,7 +10,7 @@ ghost use Rattle.scan.specs.way.Table.{filled_up, table_by, flips_over, pass_ove
 use super::holds::{Holds, hold_by, pass_limit, unheld_of};
 use super::pass::yielding_within;
 use super::set::{MOST_CONSTRAINTS, MOST_OUTPUTS, Set};
-use choice::{either, least};
+use choice::least;
 
 // The entries below count: the outputs named plain, all the outputs named, and those that yield.
 // They are filled up to a multiple of sixteen with entries that are never true, so that a loop over them has no rest.
@@ -49,17 +49,15 @@ fn fill(s: Set, h: Holds, entered: u64) -> Table
     let mut named = [0u16; MOST_CONSTRAINTS];
     let mut flip = [0u16; MOST_CONSTRAINTS];
     let mut count: usize = 0;
-    let mut i: usize = 0;
-    while i < m {
+    for i in 0..m {
         let c = s.constraints[i];
         let on = words::bit64(i, entered);
-        i = i + 1;
         if on {
             let outs = c.out_plain | c.out_negated;
             plain[count] = c.out_plain;
             named[count] = outs;
             flip[count] = yielding_within(n, c, outs & unheld);
-            count = count + 1;
+            count += 1;
         }
     }
     Table {
@@ -106,10 +104,8 @@ pub fn flips_over<'a>(
 {
     let end = least(count, MOST_CONSTRAINTS);
     let mut flips: u16 = 0;
-    let mut i: usize = 0;
-    while i < end {
-        flips = flips | flip_if(v, plain[i], named[i], flip[i]);
-        i = i + 1;
+    for i in 0..end {
+        flips |= flip_if(v, plain[i], named[i], flip[i]);
     }
     flips
 }
@@ -138,10 +134,8 @@ fn is_any_true<'a>(
 {
     let end = least(count, MOST_CONSTRAINTS);
     let mut found = false;
-    let mut i: usize = 0;
-    while i < end {
-        found = either(found, v & named[i] == plain[i]);
-        i = i + 1;
+    for i in 0..end {
+        found |= v & named[i] == plain[i];
     }
     found
 }

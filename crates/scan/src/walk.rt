@@ -18,8 +18,7 @@ pub fn walk_over(t: Table, f0: u16, f1: u16, from: u16, limit: u16) -> Walk
 {
     let count = t.count;
     let mut v = from;
-    let mut made: u16 = 0;
-    while made < limit {
+    for made in 0..limit {
         if is_safe(f0, f1, &t.plain, &t.named, count, v) {
             return Walk::Safe {
                 vector: v,
@@ -27,12 +26,11 @@ pub fn walk_over(t: Table, f0: u16, f1: u16, from: u16, limit: u16) -> Walk
             };
         }
         v = pass_over(&t.plain, &t.named, &t.flip, count, v);
-        made = made + 1;
     }
     if is_safe(f0, f1, &t.plain, &t.named, count, v) {
         return Walk::Safe {
             vector: v,
-            passes: made,
+            passes: limit,
         };
     }
     Walk::Never

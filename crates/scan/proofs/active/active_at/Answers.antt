@@ -8,20 +8,18 @@ use Rattle.scan.specs.way.Columns.{entry_true, active_by}
 use Rattle.scan.proofs.active.active_at.Goals as goal
 
 pub loop-i-init : goal.loop-i-init
-loop-i-init c = (omega arith, word_none _)
+loop-i-init c = word_none _
 
 pub loop-i-preserved : goal.loop-i-preserved
 unfolding entry_true
 loop-i-preserved c =
     let l = c.loop-i in
-    let a = c.args in (
-      omega arith,
-      word_turn (entry_true a.plain.now a.named.now a.w) 64 l.i l.active c.keep64-active.result _ (omega arith) l.invariant.1 refl
-          c.keep64-active.ensures,
-    )
+    let a = c.args in
+    word_turn (entry_true a.plain.now a.named.now a.w) 64 l.i l.active c.keep64-active.result _ (omega arith) l.invariant refl
+    c.keep64-active.ensures
 
 pub returns : goal.returns
 unfolding active_by
 returns c =
     let a = c.args in
-    c.loop-i.invariant.1 ∙ ap (λ (k : ℕ). word k (entry_true a.plain.now a.named.now a.w)) (omega arith)
+    c.loop-i.invariant ∙ ap (λ (k : ℕ). word k (entry_true a.plain.now a.named.now a.w)) (omega arith)

@@ -10,18 +10,16 @@ use Rattle.scan.specs.way.Block.{active_low, lows_of}
 use Rattle.scan.proofs.block.lows_of.Goals as goal
 
 pub loop-w-init : goal.loop-w-init
-loop-w-init c = (omega arith, ap (λ (l : List ℕ). l ++ replicate 8 0) (listed_none _))
+loop-w-init c = ap (λ (l : List ℕ). l ++ replicate 8 0) (listed_none _)
 
 pub loop-w-preserved : goal.loop-w-preserved
 loop-w-preserved c =
     let l = c.loop-w in
     let a = c.args in
-    let low : c.active_low.result ≡ active_low a.plain.now a.named.now a.m l.w = c.active_low.ensures in (
-      omega arith,
-      ap (λ (k : List ℕ). set k l.w c.active_low.result) l.invariant.1
-          ∙ listed_store (active_low a.plain.now a.named.now a.m) 0 l.w c.active_low.result (replicate 8 0)
-          (subst (λ (n : ℕ). l.w < n) (sym (length-replicate {A = ℕ} 8 0)) (omega arith)) low,
-    )
+    let low : c.active_low.result ≡ active_low a.plain.now a.named.now a.m l.w = c.active_low.ensures in
+    ap (λ (k : List ℕ). set k l.w c.active_low.result) l.invariant
+    ∙ listed_store (active_low a.plain.now a.named.now a.m) 0 l.w c.active_low.result (replicate 8 0)
+    (subst (λ (n : ℕ). l.w < n) (sym (length-replicate {A = ℕ} 8 0)) (omega arith)) low
 
 pub returns : goal.returns
 unfolding lows_of
@@ -29,4 +27,4 @@ returns c =
     let l = c.loop-w in
     let a = c.args in
     let e : l.w ≡ 8 = omega arith in
-    l.invariant.1 ∙ ap (λ (n : ℕ). listed n (active_low a.plain.now a.named.now a.m) ++ drop n (replicate 8 0)) e ∙ append-nil _
+    l.invariant ∙ ap (λ (n : ℕ). listed n (active_low a.plain.now a.named.now a.m) ++ drop n (replicate 8 0)) e ∙ append-nil _

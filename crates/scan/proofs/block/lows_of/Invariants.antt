@@ -1,14 +1,10 @@
 -- `scan::block::lows_of` meets its contract. The invariant: the masks of the values passed are made. Assumes nothing.
 use mathlib.Core.Path.{◌≡◌}
 use mathlib.Core.List.{◌++◌}
-use Prim.Native.Nat.{◌≤◌, ◌-◌}
 use lib.ListN.{drop, replicate}
 use Rattle.words.specs.Loop.{listed}
 use Rattle.scan.specs.way.Block.{active_low}
 use Rattle.scan.proofs.block.lows_of.Given as goal
 
 abbrev pub invariant-loop-w : goal.invariant-loop-w
-invariant-loop-w l = (l.w ≤ 8) × (l.of ≡ listed l.w (active_low l.plain l.named l.m) ++ drop l.w (replicate 8 0))
-
-abbrev pub decreases-loop-w : goal.decreases-loop-w
-decreases-loop-w l = 8 - l.w
+invariant-loop-w l = (l.of ≡ listed l.w (active_low l.plain l.named l.m) ++ drop l.w (replicate 8 0))

@@ -23,7 +23,7 @@ done s i rp rn op on simple e a b c d m = cc
 pub loop-i-init : goal.loop-i-init
 unfolding column_upto
 loop-i-init c =
-    (omega arith, places_none _, places_none _, places_none _, places_none _, word_none _)
+    (places_none _, places_none _, places_none _, places_none _, word_none _)
 
 pub loop-i-preserved : goal.loop-i-preserved
 unfolding column_upto simple_at constraint
@@ -31,12 +31,11 @@ loop-i-preserved c =
     let q = c in
     let l = q.loop-i in
     let s = q.args.set in (
-      omega arith,
-      places_more (of_each s (λ c. c.read_plain)) l.i _ l.read_plain (omega arith) l.invariant.1 refl,
-      places_more (of_each s reads_named) l.i _ l.read_named (omega arith) l.invariant.2 refl,
-      places_more (of_each s (λ c. c.out_plain)) l.i _ l.out_plain (omega arith) l.invariant.3 refl,
-      places_more (of_each s (λ c. c.out_negated)) l.i _ l.out_negated (omega arith) l.invariant.4 refl,
-      word_turn (simple_at s) 64 l.i l.simple c.keep64-simple.result q.is_simple.result (omega arith) l.invariant.5 q.is_simple.ensures
+      places_more (of_each s (λ c. c.read_plain)) l.i _ l.read_plain (omega arith) l.invariant.0 refl,
+      places_more (of_each s reads_named) l.i _ l.read_named (omega arith) l.invariant.1 refl,
+      places_more (of_each s (λ c. c.out_plain)) l.i _ l.out_plain (omega arith) l.invariant.2 refl,
+      places_more (of_each s (λ c. c.out_negated)) l.i _ l.out_negated (omega arith) l.invariant.3 refl,
+      word_turn (simple_at s) 64 l.i l.simple c.keep64-simple.result q.is_simple.result (omega arith) l.invariant.4 q.is_simple.ensures
           c.keep64-simple.ensures,
     )
 
@@ -44,4 +43,4 @@ pub returns : goal.returns
 returns c =
     let l = c.loop-i in
     done c.args.set l.i l.read_plain l.read_named l.out_plain l.out_negated l.simple (omega arith)
-    l.invariant.1 l.invariant.2 l.invariant.3 l.invariant.4 l.invariant.5
+    l.invariant.0 l.invariant.1 l.invariant.2 l.invariant.3 l.invariant.4

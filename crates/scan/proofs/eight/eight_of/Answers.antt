@@ -18,20 +18,19 @@ unfolding eight_of
 done plain named count i hp hn lo e a b c = cc
 
 pub loop-i-init : goal.loop-i-init
-loop-i-init c = (omega arith, places_none _, places_none _, places_none _)
+loop-i-init c = (places_none _, places_none _, places_none _)
 
 pub loop-i-preserved : goal.loop-i-preserved
 loop-i-preserved c =
     let l = c.loop-i in
     let a = c.args in (
-      omega arith,
-      places_more (high_part a.plain.now) l.i _ l.high_plain (omega arith) l.invariant.1 refl,
-      places_more (high_part a.named.now) l.i _ l.high_named (omega arith) l.invariant.2 refl,
-      places_more (low_part a.plain.now a.named.now) l.i c.low_true.result l.low (omega arith) l.invariant.3 c.low_true.ensures,
+      places_more (high_part a.plain.now) l.i _ l.high_plain (omega arith) l.invariant.0 refl,
+      places_more (high_part a.named.now) l.i _ l.high_named (omega arith) l.invariant.1 refl,
+      places_more (low_part a.plain.now a.named.now) l.i c.low_true.result l.low (omega arith) l.invariant.2 c.low_true.ensures,
     )
 
 pub returns : goal.returns
 returns c =
     let l = c.loop-i in
     let a = c.args in
-    done a.plain.now a.named.now a.count l.i l.high_plain l.high_named l.low (omega arith) l.invariant.1 l.invariant.2 l.invariant.3
+    done a.plain.now a.named.now a.count l.i l.high_plain l.high_named l.low (omega arith) l.invariant.0 l.invariant.1 l.invariant.2

@@ -1,13 +1,9 @@
 -- `scan::eight::eight_of` meets its contract. The invariant: each list has the parts of the entries passed, and then zeros. Assumes nothing.
 use mathlib.Core.Path.{◌≡◌}
-use Prim.Native.Nat.{◌≤◌, ◌-◌}
 use Rattle.scan.specs.way.Columns.{places_upto}
 use Rattle.scan.specs.way.Eight.{high_part, low_part}
 use Rattle.scan.proofs.eight.eight_of.Given as goal
 
 abbrev pub invariant-loop-i : goal.invariant-loop-i
 invariant-loop-i l =
-    (l.i ≤ l.end) × (l.high_plain ≡ places_upto (high_part l.plain) l.i) × (l.high_named ≡ places_upto (high_part l.named) l.i) × (l.low ≡ places_upto (low_part l.plain l.named) l.i)
-
-abbrev pub decreases-loop-i : goal.decreases-loop-i
-decreases-loop-i l = l.end - l.i
+    (l.high_plain ≡ places_upto (high_part l.plain) l.i) × (l.high_named ≡ places_upto (high_part l.named) l.i) × (l.low ≡ places_upto (low_part l.plain l.named) l.i)

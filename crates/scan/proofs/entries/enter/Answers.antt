@@ -10,6 +10,7 @@ use Rattle.scan.specs.way.Table.{filled_up}
 use Rattle.scan.specs.way.Entries.{with_one, entries_upto, entries_by}
 use Rattle.scan.proofs.EntriesLaws.{entries_none, entries_on, entries_off}
 use Rattle.scan.proofs.entries.enter.Goals as goal
+use Rattle.scan.proofs.entries.enter.Goals.{then-on, else-on}
 use Rattle.scan.proofs.entries.enter.Invariants.{reached}
 
 -- all constraints are passed
@@ -23,28 +24,28 @@ done plain negated m entered i count asked named inv e filled ef =
 pub loop-i-init : goal.loop-i-init
 loop-i-init c =
     let a = c.args in
-    (omega arith, omega arith, sym (entries_none a.plain.now a.negated.now a.entered))
-
-pub loop-i-preserved-then-on : goal.loop-i-preserved-then-on
-loop-i-preserved-then-on c =
-    let b = c in
-    let l = b.loop-i in
-    let a = b.args in (
-      omega arith,
-      omega arith,
-      ap (with_one (get_or a.plain.now l.i 0) (get_or a.negated.now l.i 0)) l.invariant.2
-          ∙ sym (entries_on a.plain.now a.negated.now a.entered l.i (sym b.bit64-on.ensures ∙ c.if-on.true)),
-    )
+    (omega arith, sym (entries_none a.plain.now a.negated.now a.entered))
 
 pub loop-i-preserved : goal.loop-i-preserved
 loop-i-preserved c =
-    let b = c in
-    let l = b.loop-i in
-    let a = b.args in
-    (omega arith, omega arith, l.invariant.2 ∙ sym (entries_off a.plain.now a.negated.now a.entered l.i (sym b.bit64-on.ensures ∙ c.if-on.false)))
+    let l = c.loop-i in
+    let a = c.args in
+    elim c.if-on.branch [
+      | then-on w ↦ (
+        omega (arith, w.count-is),
+        (λ k. reached (w.count-is k) (w.asked-is k) (w.named-is k))
+            ∙ ap (with_one (get_or a.plain.now l.i 0) (get_or a.negated.now l.i 0)) l.invariant.1
+            ∙ sym (entries_on a.plain.now a.negated.now a.entered l.i (sym c.bit64-on.ensures ∙ w.if-on.true)),
+      )
+      | else-on w ↦ (
+        omega (arith, w.count-is),
+        (λ k. reached (w.count-is k) (w.asked-is k) (w.named-is k)) ∙ l.invariant.1
+            ∙ sym (entries_off a.plain.now a.negated.now a.entered l.i (sym c.bit64-on.ensures ∙ w.if-on.false)),
+      )
+    ]
 
 pub returns : goal.returns
 returns c =
     let l = c.loop-i in
     let a = c.args in
-    done a.plain.now a.negated.now a.m a.entered l.i l.count l.asked l.named l.invariant.2 (omega arith) c.fill_up.result c.fill_up.ensures
+    done a.plain.now a.negated.now a.m a.entered l.i l.count l.asked l.named l.invariant.1 (omega arith) c.fill_up.result c.fill_up.ensures

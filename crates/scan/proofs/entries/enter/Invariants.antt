@@ -1,7 +1,7 @@
 -- `scan::entries::enter` meets its contract. The invariant: the entries are those of the constraints passed. Assumes nothing.
 use mathlib.Core.Path.{◌≡◌}
 use mathlib.Core.List.{List}
-use Prim.Native.Nat.{ℕ, ◌≤◌, ◌-◌}
+use Prim.Native.Nat.{ℕ, ◌≤◌}
 use Rattle.scan.specs.declared.entries.Entries.{Entries}
 use Rattle.scan.specs.way.Entries.{entries_upto}
 use Rattle.scan.proofs.entries.enter.Given as goal
@@ -12,7 +12,4 @@ reached count asked named = record { count = count; plain = asked; named = named
 
 abbrev pub invariant-loop-i : goal.invariant-loop-i
 invariant-loop-i l =
-    (l.i ≤ l.end) × (l.count ≤ l.i) × (reached l.count l.asked l.named ≡ entries_upto l.plain l.negated l.entered l.i)
-
-abbrev pub decreases-loop-i : goal.decreases-loop-i
-decreases-loop-i l = l.end - l.i
+    (l.count ≤ l.i) × (reached l.count l.asked l.named ≡ entries_upto l.plain l.negated l.entered l.i)

@@ -17,7 +17,7 @@ unfolding holds_by
 done plain negated m holding z o i e p q = λ j. reckoned ((p ∙ ap (λ (k : ℕ). gather k (kept_at plain holding)) e) j) ((q ∙ ap (λ (k : ℕ). gather k (kept_at negated holding)) e) j)
 
 pub loop-i-init : goal.loop-i-init
-loop-i-init c = (omega arith, gather_none _, gather_none _)
+loop-i-init c = (gather_none _, gather_none _)
 
 pub loop-i-preserved : goal.loop-i-preserved
 unfolding kept_at
@@ -26,11 +26,10 @@ loop-i-preserved c =
     let b = f in
     let l = b.loop-i in
     let a = b.args in (
-      omega arith,
       kept_turn (kept_at a.plain.now a.holding) l.i l.f0 f.keep16-f0.result _ _ b.bit64-held.result _
-          l.invariant.1 b.bit64-held.ensures refl refl f.keep16-f0.ensures,
+          l.invariant.0 b.bit64-held.ensures refl refl f.keep16-f0.ensures,
       kept_turn (kept_at a.negated.now a.holding) l.i l.f1 c.keep16-f1.result _ _ b.bit64-held.result _
-          l.invariant.2 b.bit64-held.ensures refl refl c.keep16-f1.ensures,
+          l.invariant.1 b.bit64-held.ensures refl refl c.keep16-f1.ensures,
     )
 
 pub returns : goal.returns
@@ -40,4 +39,4 @@ returns c =
     let a = e.args in
     let told : c.reckon.result ≡ reckoned l.f0 l.f1 = c.reckon.ensures in
     told
-    ∙ done a.plain.now a.negated.now a.m a.holding l.f0 l.f1 l.i (omega arith) l.invariant.1 l.invariant.2
+    ∙ done a.plain.now a.negated.now a.m a.holding l.f0 l.f1 l.i (omega arith) l.invariant.0 l.invariant.1

@@ -25,18 +25,16 @@ more c own k z m x b ez eb em ex =
     ∙ ap (lowest c own) (sym (add-one k))
 
 pub loop-k-init : goal.loop-k-init
-loop-k-init c = (omega arith, none c.args.c c.args.own)
+loop-k-init c = none c.args.c c.args.own
 
 pub loop-k-preserved : goal.loop-k-preserved
 loop-k-preserved c =
     let m = c in
     let b = m in
     let l = b.loop-k in
-    let a = b.args in (
-      omega arith,
-      more a.c a.own l.k l.low m.least16.result c.pick16-low.result b.bit16.result
-          l.invariant.1 b.bit16.ensures m.least16.ensures c.pick16-low.ensures,
-    )
+    let a = b.args in
+    more a.c a.own l.k l.low m.least16.result c.pick16-low.result b.bit16.result
+    l.invariant b.bit16.ensures m.least16.ensures c.pick16-low.ensures
 
 pub returns : goal.returns
-returns c = c.loop-k.invariant.1 ∙ ap (lowest c.args.c c.args.own) (omega arith)
+returns c = c.loop-k.invariant ∙ ap (lowest c.args.c c.args.own) (omega arith)

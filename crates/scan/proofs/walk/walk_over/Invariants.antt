@@ -1,6 +1,6 @@
 -- `scan::walk::walk_over` meets its contract. The invariant: what is left of the walk gives what the whole walk gives. Assumes nothing.
 use mathlib.Core.Path.{◌≡◌}
-use Prim.Native.Nat.{ℕ, ◌-◌, ◌≤◌}
+use Prim.Native.Nat.{ℕ, ◌-◌}
 use Rattle.scan.specs.declared.table.Table.{Table}
 use Rattle.scan.specs.declared.walk.Walk.{Walk}
 use Rattle.scan.specs.way.Table.{safe_over, pass_over}
@@ -12,7 +12,4 @@ abbrev pub walk : ℕ → ℕ → Table → ℕ → ℕ → ℕ → Walk
 walk f0 f1 t = walk_by (safe_over f0 f1 t.plain t.named t.count) (pass_over t.plain t.named t.flip t.count)
 
 abbrev pub invariant-loop-made : goal.invariant-loop-made
-invariant-loop-made l = (l.made ≤ l.limit) × (walk l.f0 l.f1 l.t (l.limit - l.made) l.v l.made ≡ walk l.f0 l.f1 l.t l.limit l.from 0)
-
-abbrev pub decreases-loop-made : goal.decreases-loop-made
-decreases-loop-made l = l.limit - l.made
+invariant-loop-made l = (walk l.f0 l.f1 l.t (l.limit - l.made) l.v l.made ≡ walk l.f0 l.f1 l.t l.limit l.from 0)
