@@ -7,7 +7,7 @@ ghost use Rattle.machine.specs.Machine.{state_ok, scan_of};
 
 use super::past::{read_points, sensor_before};
 use choice::both;
-use scan::{Holds, Set, State, Walk, active_at, build_by, columns_of, start_vector, walk_over};
+use scan::{Holds, Set, State, Walk, columns_of, start_vector};
 use shape::well_formed;
 
 // A scan's answer: the vector sent and the passes made, or why it is refused.
@@ -50,17 +50,14 @@ fn is_state_ok(st: State) -> bool
 }
 
 // The walk of a well-formed set at the read word w from a request; where an output is forced both ways no pass is made.
-fn walk_from(s: Set, w: u32, request: u16) -> Walk
-    requires { well_formed s ≡ true }
-    ensures { result ≡ walk s w request }
+fn walk_from(s: &Set, w: u32, request: u16) -> Walk
+    requires { well_formed s.now ≡ true }
+    ensures { result ≡ walk s.now w request }
 {
-    let m = s.m;
     let by = columns_of(s);
-    let active = active_at(&by.read_plain, &by.read_named, m, w);
-    let t = build_by(s, &by.out_plain, &by.out_negated, by.simple, active);
-    let holds = t.holds;
-    match holds {
-        Holds::Forced { f0, f1 } => { walk_over(t, f0, f1, start_vector(f0, f1, request), t.limit) }
+    let t = by.table(s, by.active_at(w));
+    match t.holds {
+        Holds::Forced { f0, f1 } => t.walk(f0, f1, start_vector(f0, f1, request)),
         Holds::Clash { output: _ } => Walk::Never,
     }
 }
@@ -81,15 +78,14 @@ pub fn scan(state: State, sensor: u32, request: u16) -> Scanned
     let n = state.set.n;
     let r = state.set.r;
     let past = sensor_before(state.accepted, state.past_sensor, sensor);
-    let read = read_points(state.set, state.past_output, past, sensor);
+    let read = read_points(&state.set, state.past_output, past, sensor);
     if !is_sensor_word(r, read.past, sensor) {
         return refuse(state, ScanAnswer::BadSensor);
     }
     if !words::fits16(request, n) {
         return refuse(state, ScanAnswer::BadRequest);
     }
-    let walked = walk_from(state.set, read.word, request);
-    match walked {
+    match walk_from(&state.set, read.word, request) {
         Walk::Safe { vector, passes } => {
             let mut next = state;
             next.past_output = vector;

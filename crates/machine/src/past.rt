@@ -35,20 +35,16 @@ pub struct ReadPoints {
 }
 
 // Which read points are no sensors, and the read word: the sensor word `present`, with past points filled from the past output word and the past sensor word.
-pub fn read_points(s: Set, output: u16, sensor: u32, present: u32) -> ReadPoints
-    requires { s.r ≤ most_reads }
-    ensures { (result.past ≡ word s.r (is_past s)) × (result.word ≡ read_word s output sensor present) }
+pub fn read_points(s: &Set, output: u16, sensor: u32, present: u32) -> ReadPoints
+    requires { s.now.r ≤ most_reads }
+    ensures { (result.past ≡ word s.now.r (is_past s.now)) × (result.word ≡ read_word s.now output sensor present) }
 {
-    let r = s.r;
     let mut past: u32 = 0;
     let mut word: u32 = 0;
-    let mut k: usize = 0;
-    while k < r {
-        let p = s.reads[k];
-        let kind = p.kind;
-        past = past | keep32(!is_sensor(kind), 1u32 << k);
-        word = word | keep32(reading_of(output, sensor, present, k, kind), 1u32 << k);
-        k = k + 1;
+    for k in 0..s.r {
+        let kind = s.reads[k].kind;
+        past |= keep32(!is_sensor(kind), 1 << k);
+        word |= keep32(reading_of(output, sensor, present, k, kind), 1 << k);
     }
     ReadPoints { past, word }
 }

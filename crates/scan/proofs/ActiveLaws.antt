@@ -70,9 +70,10 @@ module _ (s : Set) (ok : well_formed s ≡ true) where
       ∙ sym (meets_once most_reads (constraint s i).read_plain (constraint s i).read_negated w (narrow _ c.read_plain) (narrow _ c.read_negated) c.read_once))
 
   -- what the code makes of the literals of the set and a read word is the mask
-  pub made_active : (w : ℕ) (l : Columns) → l ≡ columns_of s → (active : ℕ) → active ≡ active_by l.read_plain l.read_named s.m w
+  pub made_active : (w : ℕ) (l : Columns) → l ≡ columns_of s → (active : ℕ) → active ≡ active_by l.read_plain l.read_named l.m w
       → active ≡ active_of s w
-  made_active w l el active ea = ea ∙ ap (λ (x : Columns). active_by x.read_plain x.read_named s.m w) el ∙ active_is w
+  unfolding columns_of
+  made_active w l el active ea = ea ∙ ap (λ (x : Columns). active_by x.read_plain x.read_named x.m w) el ∙ active_is w
 
   module _ (w : ℕ) where
     -- a constraint that is active and simple holds its outputs

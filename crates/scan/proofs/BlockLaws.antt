@@ -87,9 +87,9 @@ module _ (plain named : List ℕ) (m : ℕ) where
 
 -- what the code makes of the literals of the set at a word of a block is the mask of its active constraints
 pub made_in_block : (s : Set) → well_formed s ≡ true → (w : ℕ) (l : Columns) → l ≡ columns_of s
-    → (lows : List ℕ) → lows ≡ lows_of l.read_plain l.read_named s.m
-    → (high : ℕ) → high ≡ active_high l.read_plain l.read_named s.m w
+    → (lows : List ℕ) → lows ≡ lows_of l.read_plain l.read_named l.m
+    → (high : ℕ) → high ≡ active_high l.read_plain l.read_named l.m w
     → (active : ℕ) → active ≡ active_in lows high w → active ≡ active_of s w
 made_in_block s ok w l el lows elows high eh active ea =
     made_active s ok w l el active
-    (ea ∙ ap₂ (λ (x : List ℕ) (y : ℕ). active_in x y w) elows eh ∙ in_block l.read_plain l.read_named s.m w)
+    (ea ∙ ap₂ (λ (x : List ℕ) (y : ℕ). active_in x y w) elows eh ∙ in_block l.read_plain l.read_named l.m w)

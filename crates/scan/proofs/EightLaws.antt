@@ -65,39 +65,39 @@ module _ (b j : ℕ) (l : j < 8) where
   -- ---- the entries
 
   module _ (plain named : List ℕ) (count : ℕ) (e : Eight) (is : e ≡ eight_of plain named count) where
-    plain_at : (i : ℕ) → i < min count most_constraints → get_or e.plain i 0 ≡ high_part plain i
+    plain_at : (i : ℕ) → i < min count most_constraints → get_or e.high.plain i 0 ≡ high_part plain i
     unfolding eight_of
-    plain_at i h = ap (λ (x : Eight). get_or x.plain i 0) is ∙ places_at (high_part plain) (min count most_constraints) i h
+    plain_at i h = ap (λ (x : Eight). get_or x.high.plain i 0) is ∙ places_at (high_part plain) (min count most_constraints) i h
 
-    named_at : (i : ℕ) → i < min count most_constraints → get_or e.named i 0 ≡ high_part named i
+    named_at : (i : ℕ) → i < min count most_constraints → get_or e.high.named i 0 ≡ high_part named i
     unfolding eight_of
-    named_at i h = ap (λ (x : Eight). get_or x.named i 0) is ∙ places_at (high_part named) (min count most_constraints) i h
+    named_at i h = ap (λ (x : Eight). get_or x.high.named i 0) is ∙ places_at (high_part named) (min count most_constraints) i h
 
     low_at : (i : ℕ) → i < min count most_constraints → get_or e.low i 0 ≡ low_part plain named i
     unfolding eight_of
     low_at i h = ap (λ (x : Eight). get_or x.low i 0) is ∙ places_at (low_part plain named) (min count most_constraints) i h
 
-    entry_bit : (i : ℕ) → i < min count most_constraints → bit j (entry_flips e.plain e.named e.low b i) ≡ entry_true plain named (8 * b + j) i
+    entry_bit : (i : ℕ) → i < min count most_constraints → bit j (entry_flips e.high.plain e.high.named e.low b i) ≡ entry_true plain named (8 * b + j) i
     unfolding entry_flips entry_true
     entry_bit i h =
-        bit_cond (eqb (bit_and b (get_or e.named i 0)) (get_or e.plain i 0)) j (get_or e.low i 0)
+        bit_cond (eqb (bit_and b (get_or e.high.named i 0)) (get_or e.high.plain i 0)) j (get_or e.low i 0)
         ∙ (λ k. eqb (bit_and b (named_at i h k)) (plain_at i h k) && bit j (low_at i h k))
         ∙ product_bit (get_or plain i 0) (get_or named i 0)
 
     -- some entry is true at it
-    any_bit : bit j (flips_over e.plain e.named e.low count b) ≡ any_true plain named count (8 * b + j)
+    any_bit : bit j (flips_over e.high.plain e.high.named e.low count b) ≡ any_true plain named count (8 * b + j)
     unfolding flips_over any_true
     any_bit =
-        bit_gather j (min count most_constraints) (entry_flips e.plain e.named e.low b)
-        ∙ some_cong (min count most_constraints) (λ i. bit j (entry_flips e.plain e.named e.low b i)) (entry_true plain named (8 * b + j)) entry_bit
+        bit_gather j (min count most_constraints) (entry_flips e.high.plain e.high.named e.low b)
+        ∙ some_cong (min count most_constraints) (λ i. bit j (entry_flips e.high.plain e.high.named e.low b i)) (entry_true plain named (8 * b + j)) entry_bit
 
     -- ---- the byte, where these are asked for
 
-    byte_bit : (held f0 f1 : ℕ) → bit j (safe_byte held f0 f1 e.plain e.named e.low count b)
+    byte_bit : (held f0 f1 : ℕ) → bit j (safe_byte held f0 f1 e.high.plain e.high.named e.low count b)
         ≡ meets (f1 / 8) (f0 / 8) b && (bit j held && not (any_true plain named count (8 * b + j)))
     unfolding safe_byte
     byte_bit held f0 f1 =
-        let true-at = flips_over e.plain e.named e.low count b in
+        let true-at = flips_over e.high.plain e.high.named e.low count b in
         let kept = meets (f1 / 8) (f0 / 8) b in
         bit_cond kept j (without held true-at)
         ∙ ap (λ (x : Bool). kept && x) (bit_without j held true-at)
@@ -112,9 +112,14 @@ outward true false false n = refl
 outward false h true n = refl
 outward false h false n = refl
 
+-- the entries are as many
+pub eight_count : (plain named : List ℕ) (count : ℕ) (e : Eight) → e ≡ eight_of plain named count → e.high.count ≡ count
+unfolding eight_of
+eight_count plain named count e is = ap (λ (x : Eight). x.high.count) is
+
 -- of those chosen, the safe ones
 pub safe_byte_bit : (plain named : List ℕ) (count : ℕ) (e : Eight) → e ≡ eight_of plain named count → (f0 f1 chosen b j : ℕ) → j < 8
-    → bit j (safe_byte (bit_and (low_held f0 f1) chosen) f0 f1 e.plain e.named e.low count b)
+    → bit j (safe_byte (bit_and (low_held f0 f1) chosen) f0 f1 e.high.plain e.high.named e.low count b)
     ≡ bit j chosen && safe_over f0 f1 plain named count (8 * b + j)
 unfolding safe_over
 safe_byte_bit plain named count e is f0 f1 chosen b j l =
@@ -139,7 +144,7 @@ safe_byte_held_law (Clash k) plain named count b j l = bit_zero j
 -- by a table
 pub safe_byte_in_law : (t : Table) (b j : ℕ) → j < 8 → bit j (safe_byte_in t b) ≡ safe_in t (8 * b + j)
 unfolding safe_byte_in
-safe_byte_in_law t b j l = safe_byte_held_law t.holds t.plain t.named t.count b j l
+safe_byte_in_law t b j l = safe_byte_held_law t.holds t.entries.plain t.entries.named t.entries.count b j l
 
 -- ---- how large the bytes are
 

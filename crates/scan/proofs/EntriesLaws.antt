@@ -152,6 +152,7 @@ module _ (s : Set) (ok : well_formed s ≡ true) (w : ℕ) where
 
   -- and so does what the code makes of the columns of the set and the mask of the word
   pub made_entries : (l : Columns) → l ≡ columns_of s → (active : ℕ) → active ≡ active_of s w → (e : Entries)
-      → e ≡ entries_by l.out_plain l.out_negated s.m active → (v : ℕ) → safe_over 0 0 e.plain e.named e.count v ≡ safe s w v
+      → e ≡ entries_by l.out_plain l.out_negated l.m active → (v : ℕ) → safe_over 0 0 e.plain e.named e.count v ≡ safe s w v
+  unfolding columns_of
   made_entries l el active ea e ee =
-      entries_safe e (ee ∙ (λ k. entries_by (el k).out_plain (el k).out_negated s.m (ea k)))
+      entries_safe e (ee ∙ (λ k. entries_by (el k).out_plain (el k).out_negated (el k).m (ea k)))

@@ -87,10 +87,10 @@ true_old plain named n p q v j l = λ k. eqb (bit_and v (old named n q j l k)) (
 pub record Formed (s : Set) (h : Holds) (t : Table) : Type 0 where
   pub holds_is : t.holds ≡ h
   pub limit_is : t.limit ≡ limit_by (unheld_in s h)
-  pub plain_places : length t.plain ≡ most_constraints
-  pub named_places : length t.named ≡ most_constraints
+  pub plain_places : length t.entries.plain ≡ most_constraints
+  pub named_places : length t.entries.named ≡ most_constraints
   pub flip_places : length t.flip ≡ most_constraints
-  pub spare : (v j : ℕ) → t.count ≤ j → j < most_constraints → entry_true t.plain t.named v j ≡ false
+  pub spare : (v j : ℕ) → t.entries.count ≤ j → j < most_constraints → entry_true t.entries.plain t.entries.named v j ≡ false
 
 -- and none is true before one is stored
 pub empty_spare : (v j : ℕ) → j < most_constraints → entry_true (replicate most_constraints 1) (replicate most_constraints 0) v j ≡ false
@@ -113,11 +113,11 @@ upto_formed s h entered i =
     (λ k l f e. let t = table_upto s h entered k in record {
       holds_is = f.holds_is;
       limit_is = f.limit_is;
-      plain_places = length-set t.plain t.count _ ∙ f.plain_places;
-      named_places = length-set t.named t.count _ ∙ f.named_places;
-      flip_places = length-set t.flip t.count _ ∙ f.flip_places;
+      plain_places = length-set t.entries.plain t.entries.count _ ∙ f.plain_places;
+      named_places = length-set t.entries.named t.entries.count _ ∙ f.named_places;
+      flip_places = length-set t.flip t.entries.count _ ∙ f.flip_places;
       spare = λ v j m b.
-          sym (true_old t.plain t.named t.count (constraint s k).out_plain (outs (constraint s k)) v j (λ q. absurd (omega arith)))
+          sym (true_old t.entries.plain t.entries.named t.entries.count (constraint s k).out_plain (outs (constraint s k)) v j (λ q. absurd (omega arith)))
           ∙ f.spare v j (omega arith) b;
     })
     (λ k l f e. f)
@@ -132,9 +132,9 @@ pub record Apart (c : Constraint) : Type 0 where
 
 -- at each vector, the entries flip what the first i constraints flip, and one is true where one of those that are combined is
 pub record Tells (s : Set) (w i : ℕ) (t : Table) : Type 0 where
-  pub few : t.count ≤ i
-  pub flipped : (v : ℕ) → gather i (flips s w v) ≡ gather t.count (entry_flips t.plain t.named t.flip v)
-  pub anys : (v : ℕ) → some i (fires s w v) ≡ some t.count (entry_true t.plain t.named v)
+  pub few : t.entries.count ≤ i
+  pub flipped : (v : ℕ) → gather i (flips s w v) ≡ gather t.entries.count (entry_flips t.entries.plain t.entries.named t.flip v)
+  pub anys : (v : ℕ) → some i (fires s w v) ≡ some t.entries.count (entry_true t.entries.plain t.entries.named v)
 
 -- where the constraints entered are those that fire with their output literals, and these holds make the same outputs yield
 module _ (s : Set) (w : ℕ) (h : Holds) (entered m : ℕ)
@@ -155,22 +155,22 @@ module _ (s : Set) (w : ℕ) (h : Holds) (entered m : ℕ)
     anys = λ v. some_more i _ ∙ ap₂ ◌||◌ (so_far.anys v) (fires_where i below v false e) ∙ or-false _;
   }
 
-  module _ (i : ℕ) (below : i < m) (t : Table) (f : Formed s h t) (room : t.count < most_constraints) (apart : Apart (constraint s i)) where
+  module _ (i : ℕ) (below : i < m) (t : Table) (f : Formed s h t) (room : t.entries.count < most_constraints) (apart : Apart (constraint s i)) where
     -- the table with the constraint's entry
     abbrev more : Table
     more = with_entry (constraint s i) (yields_in s h i) t
 
     -- an entry stored before is as it was
-    before : (v j : ℕ) → j < t.count → entry_true t.plain t.named v j ≡ entry_true more.plain more.named v j
-    before v j l = true_old t.plain t.named t.count (constraint s i).out_plain (outs (constraint s i)) v j (λ q. absurd (omega arith))
+    before : (v j : ℕ) → j < t.entries.count → entry_true t.entries.plain t.entries.named v j ≡ entry_true more.entries.plain more.entries.named v j
+    before v j l = true_old t.entries.plain t.entries.named t.entries.count (constraint s i).out_plain (outs (constraint s i)) v j (λ q. absurd (omega arith))
 
     -- the new one is true where the constraint's output literals are
-    true_new : (v : ℕ) → outs_true (constraint s i) v ≡ entry_true more.plain more.named v t.count
+    true_new : (v : ℕ) → outs_true (constraint s i) v ≡ entry_true more.entries.plain more.entries.named v t.entries.count
     unfolding outs_true entry_true
     true_new v =
         meets_once 16 (constraint s i).out_plain (constraint s i).out_negated v apart.plain apart.negated apart.once
-        ∙ (λ k. eqb (bit_and v (new t.named t.count (outs (constraint s i)) (omega arith) k))
-        (new t.plain t.count (constraint s i).out_plain (omega arith) k))
+        ∙ (λ k. eqb (bit_and v (new t.entries.named t.entries.count (outs (constraint s i)) (omega arith) k))
+        (new t.entries.plain t.entries.count (constraint s i).out_plain (omega arith) k))
 
     stored : Tells s w i t → bit i entered ≡ true → Tells s w (i + 1) more
     unfolding entry_flips
@@ -180,13 +180,13 @@ module _ (s : Set) (w : ℕ) (h : Holds) (entered m : ℕ)
           gather_more i _
           ∙ ap₂ bit_or
           (so_far.flipped v
-          ∙ gather_cong t.count _ _ (λ j l. λ k. cond (before v j l k) (old t.flip t.count (yields_in s h i) j (λ q. absurd (omega arith)) k) 0))
-          (flips_where i below v true e ∙ (λ k. cond (true_new v k) (new t.flip t.count (yields_in s h i) (omega arith) k) 0))
-          ∙ sym (gather_more t.count _);
+          ∙ gather_cong t.entries.count _ _ (λ j l. λ k. cond (before v j l k) (old t.flip t.entries.count (yields_in s h i) j (λ q. absurd (omega arith)) k) 0))
+          (flips_where i below v true e ∙ (λ k. cond (true_new v k) (new t.flip t.entries.count (yields_in s h i) (omega arith) k) 0))
+          ∙ sym (gather_more t.entries.count _);
       anys = λ v.
           some_more i _
-          ∙ ap₂ ◌||◌ (so_far.anys v ∙ some_cong t.count _ _ (before v)) (fires_where i below v true e ∙ true_new v)
-          ∙ sym (some_more t.count _);
+          ∙ ap₂ ◌||◌ (so_far.anys v ∙ some_cong t.entries.count _ _ (before v)) (fires_where i below v true e ∙ true_new v)
+          ∙ sym (some_more t.entries.count _);
     }
 
   tells : m ≤ most_constraints → ((j : ℕ) → j < m → Apart (constraint s j)) → (i : ℕ) → i ≤ m → Tells s w i (table_upto s h entered i)
@@ -221,10 +221,10 @@ module _ (plain named : List ℕ) (count v : ℕ) (few : count ≤ most_constrai
 
 -- what the code makes of the columns of a set and a mask is its table
 pub made_table : (s : Set) (l : Columns) → l ≡ columns_of s → (active : ℕ) (t : Table)
-    → t ≡ table_by s (holds_by l.out_plain l.out_negated s.m (bit_and active l.simple)) (without active l.simple) → t ≡ table_of s active
-unfolding table_of
+    → t ≡ table_by s (holds_by l.out_plain l.out_negated l.m (bit_and active l.simple)) (without active l.simple) → t ≡ table_of s active
+unfolding table_of columns_of
 made_table s l el active t et =
-    et ∙ ap (λ (x : Columns). table_by s (holds_by x.out_plain x.out_negated s.m (bit_and active x.simple)) (without active x.simple)) el
+    et ∙ ap (λ (x : Columns). table_by s (holds_by x.out_plain x.out_negated x.m (bit_and active x.simple)) (without active x.simple)) el
 
 -- of a well-formed set, where the active constraints are those of a read word: the table's safety, holds and walk are the set's there; and so are its pass, start
 -- vector and pass limit, where no output is forced both ways
@@ -242,16 +242,16 @@ module _ (s : Set) (w : ℕ) (ok : well_formed s ≡ true) where
   entered = without (active_of s w) (columns_of s).simple
 
   -- the table before it is filled up
-  abbrev entries : Table
-  entries = table_upto s (holds_of s w) entered s.m
+  abbrev whole : Table
+  whole = table_upto s (holds_of s w) entered s.m
 
-  table_is : table_of s (active_of s w) ≡ with_count (filled_up entries.count) entries
+  table_is : table_of s (active_of s w) ≡ with_count (filled_up whole.entries.count) whole
   unfolding table_of table_by
   table_is =
       ap (λ (h : Holds). table_by s h entered) (holds_are s ok w)
-      ∙ ap (λ (k : ℕ). with_count (filled_up (table_upto s (holds_of s w) entered k).count) (table_upto s (holds_of s w) entered k)) (counted_all s ok)
+      ∙ ap (λ (k : ℕ). with_count (filled_up (table_upto s (holds_of s w) entered k).entries.count) (table_upto s (holds_of s w) entered k)) (counted_all s ok)
 
-  formed : Formed s (holds_of s w) entries
+  formed : Formed s (holds_of s w) whole
   formed = upto_formed s (holds_of s w) entered s.m
 
   pub table_holds : (table_of s (active_of s w)).holds ≡ holds_of s w
@@ -270,10 +270,10 @@ module _ (s : Set) (w : ℕ) (ok : well_formed s ≡ true) where
     unfolding yields yields_in
     yields_is i = sym (λ j. yielding (outputs_all j) (constraint s i) (bit_and (outs (constraint s i)) (unheld_is j)))
 
-    told : Tells s w s.m entries
+    told : Tells s w s.m whole
     told = tells s w (holds_of s w) entered s.m (fires_by s ok w) yields_is (counts s ok).m_le apart s.m (omega arith)
 
-    few : entries.count ≤ most_constraints
+    few : whole.entries.count ≤ most_constraints
     few = omega (arith, told.few, (counts s ok).m_le)
 
     limit_free : (table_of s (active_of s w)).limit ≡ pass_limit s w
@@ -284,14 +284,14 @@ module _ (s : Set) (w : ℕ) (ok : well_formed s ≡ true) where
     unfolding pass_over pass
     pass_free v =
         ap (λ (t : Table). pass_in t v) table_is
-        ∙ ap (bit_xor v) (flips_filled entries.plain entries.named entries.count v few (formed.spare v) entries.flip ∙ sym (told.flipped v))
+        ∙ ap (bit_xor v) (flips_filled whole.entries.plain whole.entries.named whole.entries.count v few (formed.spare v) whole.flip ∙ sym (told.flipped v))
 
     safe_free : (v : ℕ) → safe_in (table_of s (active_of s w)) v ≡ safe s w v
     unfolding safe_over
     safe_free v =
-        let anys = any_filled entries.plain entries.named entries.count v few (formed.spare v) ∙ sym (told.anys v) in
+        let anys = any_filled whole.entries.plain whole.entries.named whole.entries.count v few (formed.spare v) ∙ sym (told.anys v) in
         ap (λ (t : Table). safe_in t v) table_is
-        ∙ ap (λ (h : Holds). safe_held h entries.plain entries.named (filled_up entries.count) v) (formed.holds_is ∙ holds_forced)
+        ∙ ap (λ (h : Holds). safe_held h whole.entries.plain whole.entries.named (filled_up whole.entries.count) v) (formed.holds_is ∙ holds_forced)
         ∙ ap (λ (b : Bool). meets (F1 s w) (F0 s w) v && not b) anys
         ∙ sym (safe_table s w v ok)
 
@@ -303,7 +303,7 @@ module _ (s : Set) (w : ℕ) (ok : well_formed s ≡ true) where
   pub table_safe : (v : ℕ) → safe_in (table_of s (active_of s w)) v ≡ safe s w v
   table_safe v =
       by_reckoned (F0 s w) (F1 s w)
-      (λ k l. ap (λ (h : Holds). safe_held h (table_of s (active_of s w)).plain (table_of s (active_of s w)).named (table_of s (active_of s w)).count v)
+      (λ k l. ap (λ (h : Holds). safe_held h (table_of s (active_of s w)).entries.plain (table_of s (active_of s w)).entries.named (table_of s (active_of s w)).entries.count v)
       (table_holds ∙ reckoned_clash (F0 s w) (F1 s w) k l) ∙ sym (clash_unsafe s w v ok k l.off l.on))
       (λ free. safe_free free v)
 

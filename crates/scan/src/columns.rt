@@ -7,10 +7,11 @@ use super::pick::keep64;
 use super::set::{MOST_CONSTRAINTS, Set};
 use choice::least;
 
-// Of each constraint: the read points named plain, all the read points named, the outputs named plain and those named negated; and which constraints are simple, bit i
-// being constraint i. The places beyond the constraints are zero.
+// How many constraints there are; of each the read points named plain, all the read points named, the outputs named plain and those named negated; and which
+// constraints are simple, bit i being constraint i. The places beyond the constraints are zero. One array for each kind, for speed: a loop takes many places at once.
 #[derive(Clone, Copy)]
 pub struct Columns {
+    pub m: usize,
     pub read_plain: [u32; MOST_CONSTRAINTS],
     pub read_named: [u32; MOST_CONSTRAINTS],
     pub out_plain: [u16; MOST_CONSTRAINTS],
@@ -19,16 +20,16 @@ pub struct Columns {
 }
 
 // The columns of the set's constraints.
-pub fn columns_of(set: Set) -> Columns
-    ensures { result ≡ columns_of set }
+pub fn columns_of(set: &Set) -> Columns
+    ensures { result ≡ columns_of set.now }
 {
-    let m = least(set.m, MOST_CONSTRAINTS);
+    let end = least(set.m, MOST_CONSTRAINTS);
     let mut read_plain = [0u32; MOST_CONSTRAINTS];
     let mut read_named = [0u32; MOST_CONSTRAINTS];
     let mut out_plain = [0u16; MOST_CONSTRAINTS];
     let mut out_negated = [0u16; MOST_CONSTRAINTS];
     let mut simple: u64 = 0;
-    for i in 0..m {
+    for i in 0..end {
         let c = set.constraints[i];
         read_plain[i] = c.read_plain;
         read_named[i] = c.read_plain | c.read_negated;
@@ -37,6 +38,7 @@ pub fn columns_of(set: Set) -> Columns
         simple |= keep64(is_simple(c), 1 << i);
     }
     Columns {
+        m: set.m,
         read_plain,
         read_named,
         out_plain,

@@ -3,16 +3,14 @@
 ghost use Rattle.std.specs.Prelude.{◌≡◌};
 ghost use Rattle.scan.specs.way.Eight.{low_true, low_held, eight_of, safe_byte};
 
+use super::entries::{Entries, flip_if};
 use super::set::MOST_CONSTRAINTS;
-use super::table::{flip_if, flips_over};
 use choice::least;
 
-// Of each entry: the outputs from 3 on that it names plain, all of these that it names, and the byte of its literals of outputs 0 to 2. The places beyond the
-// entries are zero.
+// Of each entry: what it asks of the outputs from 3 on, and the byte of its literals of outputs 0 to 2. The places beyond the entries are zero.
 #[derive(Clone, Copy)]
 pub struct Eight {
-    pub plain: [u16; MOST_CONSTRAINTS],
-    pub named: [u16; MOST_CONSTRAINTS],
+    pub high: Entries,
     pub low: [u16; MOST_CONSTRAINTS],
 }
 
@@ -39,49 +37,42 @@ pub fn low_held(f0: u16, f1: u16) -> u16
     low_true(f1, f1) & low_true(0, f0)
 }
 
-// The first `count` entries, for judging eight vectors at once, by the outputs that each names plain and by all that it names.
-pub fn eight_of<'a>(
-    plain: &'a [u16; MOST_CONSTRAINTS],
-    named: &'a [u16; MOST_CONSTRAINTS],
-    count: usize,
-) -> Eight
-    ensures { result ≡ eight_of plain.now named.now count }
-{
-    let end = least(count, MOST_CONSTRAINTS);
-    let mut high_plain = [0u16; MOST_CONSTRAINTS];
-    let mut high_named = [0u16; MOST_CONSTRAINTS];
-    let mut low = [0u16; MOST_CONSTRAINTS];
-    for i in 0..end {
-        let p = plain[i];
-        let q = named[i];
-        high_plain[i] = p / 8;
-        high_named[i] = q / 8;
-        low[i] = low_true(p, q);
-    }
-    Eight {
-        plain: high_plain,
-        named: high_named,
-        low,
+impl Entries {
+    // The entries, for judging eight vectors at once.
+    pub fn eight(&self) -> Eight
+        ensures { result ≡ eight_of self.now.plain self.now.named self.now.count }
+    {
+        let end = least(self.count, MOST_CONSTRAINTS);
+        let mut plain = [0u16; MOST_CONSTRAINTS];
+        let mut named = [0u16; MOST_CONSTRAINTS];
+        let mut low = [0u16; MOST_CONSTRAINTS];
+        for i in 0..end {
+            let p = self.plain[i];
+            let q = self.named[i];
+            plain[i] = p / 8;
+            named[i] = q / 8;
+            low[i] = low_true(p, q);
+        }
+        Eight {
+            high: Entries {
+                count: self.count,
+                plain,
+                named,
+            },
+            low,
+        }
     }
 }
 
-// Of the vectors 8 b to 8 b + 7, bit j being 8 b + j, those of `held` that are safe: the outputs from 3 on are as they are held, and none of the first `count`
-// entries is true.
-pub fn safe_byte<'a>(
-    held: u16,
-    f0: u16,
-    f1: u16,
-    plain: &'a [u16; MOST_CONSTRAINTS],
-    named: &'a [u16; MOST_CONSTRAINTS],
-    low: &'a [u16; MOST_CONSTRAINTS],
-    count: usize,
-    b: u16,
-) -> u16
-    ensures { result ≡ safe_byte held f0 f1 plain.now named.now low.now count b }
-{
-    if words::meets16(f1 / 8, f0 / 8, b) {
-        words::without16(held, flips_over(plain, named, low, count, b))
-    } else {
-        0
+impl Eight {
+    // Of the vectors 8 b to 8 b + 7, bit j being 8 b + j, those of `held` that are safe: the outputs from 3 on are as they are held, and no entry is true.
+    pub fn safe_byte(&self, held: u16, f0: u16, f1: u16, b: u16) -> u16
+        ensures { result ≡ safe_byte held f0 f1 self.now.high.plain self.now.high.named self.now.low self.now.high.count b }
+    {
+        if words::meets16(f1 / 8, f0 / 8, b) {
+            words::without16(held, self.high.flips(&self.low, b))
+        } else {
+            0
+        }
     }
 }

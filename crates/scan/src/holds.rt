@@ -5,8 +5,7 @@ ghost use Rattle.scan.specs.Set.{most_outputs};
 ghost use Rattle.scan.specs.Holds.{both_ways, reckoned, start_from};
 ghost use Rattle.scan.specs.way.Holds.{holds_by, holds_at, unheld_from, limit_by};
 
-use super::active::active_at;
-use super::columns::columns_of;
+use super::columns::{Columns, columns_of};
 use super::pick::keep16;
 use super::set::{MOST_CONSTRAINTS, Set};
 use choice::{both, least};
@@ -45,34 +44,29 @@ fn reckon(f0: u16, f1: u16) -> Holds
     }
 }
 
-// The holds of those of the first m constraints that the mask has, by the outputs that each names plain and negated: the active simple ones hold.
-pub fn hold_by<'a>(
-    plain: &'a [u16; MOST_CONSTRAINTS],
-    negated: &'a [u16; MOST_CONSTRAINTS],
-    m: usize,
-    holding: u64,
-) -> Holds
-    ensures { result ≡ holds_by plain.now negated.now m holding }
-{
-    let end = least(m, MOST_CONSTRAINTS);
-    let mut f0: u16 = 0;
-    let mut f1: u16 = 0;
-    for i in 0..end {
-        let held = words::bit64(i, holding);
-        f0 |= keep16(held, plain[i]);
-        f1 |= keep16(held, negated[i]);
+impl Columns {
+    // The holds of those constraints that the mask has: the active simple ones hold.
+    pub fn hold_by(&self, holding: u64) -> Holds
+        ensures { result ≡ holds_by self.now.out_plain self.now.out_negated self.now.m holding }
+    {
+        let end = least(self.m, MOST_CONSTRAINTS);
+        let mut f0: u16 = 0;
+        let mut f1: u16 = 0;
+        for i in 0..end {
+            let held = words::bit64(i, holding);
+            f0 |= keep16(held, self.out_plain[i]);
+            f1 |= keep16(held, self.out_negated[i]);
+        }
+        reckon(f0, f1)
     }
-    reckon(f0, f1)
 }
 
 // The reckoning of holds of a set at the read word w.
 pub fn hold(set: Set, w: u32) -> Holds
     ensures { result ≡ holds_at set w }
 {
-    let m = set.m;
-    let by = columns_of(set);
-    let active = active_at(&by.read_plain, &by.read_named, m, w);
-    hold_by(&by.out_plain, &by.out_negated, m, active & by.simple)
+    let by = columns_of(&set);
+    by.hold_by(by.active_at(w) & by.simple)
 }
 
 // Of n outputs those that are left to passes: those that are not held, and none at a clash.

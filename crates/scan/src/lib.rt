@@ -14,15 +14,14 @@ mod eight; // safety of eight vectors at once
 mod entries; // the entries of the active constraints alone, for safety where no pass is made
 mod walk; // one pass after another while the vector is unsafe
 
-pub use active::active_at;
-pub use block::{Lows, WORDS, active_high, active_in, high_at, lows_of};
+pub use block::{Lows, WORDS};
 pub use columns::{Columns, columns_of};
-pub use eight::{Eight, eight_of, low_held, safe_byte};
-pub use entries::{Entries, enter};
+pub use eight::{Eight, low_held};
+pub use entries::Entries;
 pub use holds::{Holds, hold, start_vector};
 pub use set::{
     Constraint, Kind, MOST_CONSTRAINTS, MOST_OUTPUTS, MOST_POINTS, MOST_READS, NAME_PLACES,
     OutputPoint, ReadPoint, Set, State, zero_set,
 };
-pub use table::{Table, build_by, is_safe, pass_over};
-pub use walk::{Walk, walk_over};
+pub use table::Table;
+pub use walk::Walk;

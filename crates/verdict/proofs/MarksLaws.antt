@@ -21,7 +21,7 @@ use Rattle.words.proofs.LoopLaws.{some_at, some_true, some_cong, bit_word, bit_l
 use Rattle.scan.specs.declared.eight.Eight.{Eight}
 use Rattle.scan.specs.way.Table.{safe_over}
 use Rattle.scan.specs.way.Eight.{low_held, eight_of, safe_byte}
-use Rattle.scan.proofs.EightLaws.{safe_byte_bit, safe_byte_le, low_held_lt}
+use Rattle.scan.proofs.EightLaws.{eight_count, safe_byte_bit, safe_byte_le, low_held_lt}
 use Rattle.verdict.specs.Judge.{scratch_bytes}
 use Rattle.verdict.specs.way.Marks.{marked, with_mark, within, mark_byte, marked_where, has_mark, first_vectors}
 use Rattle.verdict.proofs.JudgeLaws.{scratch_one, scratch_eighth, scratch_enough}
@@ -154,12 +154,12 @@ module _ (n b : ℕ) (there : b < scratch_bytes n) where
 
   -- the byte that judging eight at once makes
   safe_byte_is : (plain named : List ℕ) (count : ℕ) (e : Eight) → e ≡ eight_of plain named count → (f0 f1 held : ℕ) → held ≡ bit_and (low_held f0 f1) (first_vectors n)
-      → safe_byte held f0 f1 e.plain e.named e.low count b ≡ mark_byte n (safe_over f0 f1 plain named count) b
+      → safe_byte held f0 f1 e.high.plain e.high.named e.low e.high.count b ≡ mark_byte n (safe_over f0 f1 plain named count) b
   unfolding within mark_byte
   safe_byte_is plain named count e ee f0 f1 held eh =
-      ap (λ (x : ℕ). safe_byte x f0 f1 e.plain e.named e.low count b) eh
+      ap₂ (λ (x k : ℕ). safe_byte x f0 f1 e.high.plain e.high.named e.low k b) eh (eight_count plain named count e ee)
       ∙ same_bits 8 _ (mark_byte n (safe_over f0 f1 plain named count) b)
-      (lt_of_le_of_lt (safe_byte_le _ f0 f1 e.plain e.named e.low count b) (lt_of_le_of_lt (and_le_l (low_held f0 f1) (first_vectors n)) (low_held_lt f0 f1)))
+      (lt_of_le_of_lt (safe_byte_le _ f0 f1 e.high.plain e.high.named e.low count b) (lt_of_le_of_lt (and_le_l (low_held f0 f1) (first_vectors n)) (low_held_lt f0 f1)))
       (word_lt 8 _)
       (λ j h. safe_byte_bit plain named count e ee f0 f1 (first_vectors n) b j h
       ∙ ap (λ (x : Bool). x && safe_over f0 f1 plain named count (8 * b + j)) (first_bit j h)
@@ -168,10 +168,10 @@ module _ (n b : ℕ) (there : b < scratch_bytes n) where
 -- all bytes of n outputs, and whether one has a safe vector
 module _ (n : ℕ) (plain named : List ℕ) (count : ℕ) (e : Eight) (ee : e ≡ eight_of plain named count) (f0 f1 held : ℕ)
     (eh : held ≡ bit_and (low_held f0 f1) (first_vectors n)) where
-  pub bytes_are : listed (scratch_bytes n) (safe_byte held f0 f1 e.plain e.named e.low count) ≡ marked_where n (safe_over f0 f1 plain named count)
+  pub bytes_are : listed (scratch_bytes n) (safe_byte held f0 f1 e.high.plain e.high.named e.low e.high.count) ≡ marked_where n (safe_over f0 f1 plain named count)
   bytes_are = listed_cong (scratch_bytes n) _ _ (λ b h. safe_byte_is n b h plain named count e ee f0 f1 held eh)
 
-  pub some_safe : some (scratch_bytes n) (has_mark (safe_byte held f0 f1 e.plain e.named e.low count)) ≡ some (2 ^ n) (safe_over f0 f1 plain named count)
+  pub some_safe : some (scratch_bytes n) (has_mark (safe_byte held f0 f1 e.high.plain e.high.named e.low e.high.count)) ≡ some (2 ^ n) (safe_over f0 f1 plain named count)
   some_safe =
       some_cong (scratch_bytes n) _ (has_mark (mark_byte n (safe_over f0 f1 plain named count)))
       (λ b h. ap (λ (x : ℕ). not (eqb x 0)) (safe_byte_is n b h plain named count e ee f0 f1 held eh))

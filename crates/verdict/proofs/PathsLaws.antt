@@ -10,10 +10,14 @@ use native.Mathlib.Decide.{ℕ_discrete}
 use native.Mathlib.Omega.{arith}
 use lib.ListN.{length, get_or, set, length-set}
 use lib.Seq.{get_or-set_same, get_or-set_other}
+use lib.Dec.{ltb}
+use borrow.Author.Tests.{lt-ltb, le-ltb, ltb-true, ltb-false}
+use Rattle.std.specs.Prelude.{Some, None}
+use Rattle.words.proofs.BoolLaws.{by_test, cond_true, cond_false}
 use Rattle.words.specs.Loop.{some, iterate}
 use Rattle.words.proofs.LoopTurns.{some_miss, missed_here, missed_all}
 use Rattle.verdict.specs.way.Marks.{marked, with_mark}
-use Rattle.verdict.specs.way.Paths.{passes_to_mark, path_marked, trail_places, Trail, trail_marked}
+use Rattle.verdict.specs.way.Paths.{mark_reached, passes_to_mark, path_marked, trail_places, Trail, trail_marked}
 
 -- one pass more, as code counts
 pub pass_more : (next : ℕ → ℕ) (from made v x : ℕ) → v ≡ iterate next made from → x ≡ next v → x ≡ iterate next (made + 1) from
@@ -39,9 +43,41 @@ module _ (next : ℕ → ℕ) (marks : List ℕ) (limit from made v : ℕ) (few 
   pub come_on : b ≡ false → some (made + 1) (marked_after next marks from) ≡ false
   come_on e = some_miss (marked_after next marks from) made none (sym here ∙ e)
 
-  pub come_never : b ≡ false → limit ≤ made → limit + 1 ≡ passes_to_mark next marks limit from
-  unfolding passes_to_mark
-  come_never e l = missed_all (limit + 1) (marked_after next marks from) (made + 1) (omega arith, come_on e) (omega arith)
+-- and where none at all is marked
+pub none_came : (next : ℕ → ℕ) (marks : List ℕ) (limit from made : ℕ) → made ≡ limit + 1 → some made (marked_after next marks from) ≡ false
+    → made ≡ passes_to_mark next marks limit from
+unfolding passes_to_mark
+none_came next marks limit from made all none = all ∙ missed_all (limit + 1) (marked_after next marks from) made (omega (arith, all), none) (omega (arith, all))
+
+-- the passes, if there is a mark
+module _ (next : ℕ → ℕ) (marks : List ℕ) (limit v : ℕ) where
+  abbrev due : ℕ
+  due = passes_to_mark next marks limit v
+
+  pub reach_some : (made : ℕ) → made ≡ due → made ≤ limit → Some made ≡ mark_reached next marks limit v
+  unfolding mark_reached
+  reach_some made e h = ap Some e ∙ cond_false (ltb limit due) None (Some due) (le-ltb limit due (omega (arith, e)))
+
+  pub reach_none : limit < due → None ≡ mark_reached next marks limit v
+  unfolding mark_reached
+  reach_none h = cond_true (ltb limit due) None (Some due) (lt-ltb limit due h)
+
+  pub reached_some : (made : ℕ) → Some made ≡ mark_reached next marks limit v → (made ≡ due) × (made ≤ limit)
+  unfolding mark_reached
+  reached_some made e =
+      by_test (ltb limit due)
+      (λ t. let no : Some made ≡ None = e ∙ sym (cond_true (ltb limit due) None (Some due) t) in absurd (cc no))
+      (λ f. let is : Some made ≡ Some due = e ∙ sym (cond_false (ltb limit due) None (Some due) f) in
+      let same : made ≡ due = cc is in
+      let few = ltb-false limit due f in
+      (same, omega (arith, same, few)))
+
+  pub reached_none : None ≡ mark_reached next marks limit v → limit < due
+  unfolding mark_reached
+  reached_none e =
+      by_test (ltb limit due)
+      (λ t. ltb-true limit due t)
+      (λ f. let no : None ≡ Some due = e ∙ sym (cond_false (ltb limit due) None (Some due) f) in absurd (cc no))
 
 -- ---- marking a path
 

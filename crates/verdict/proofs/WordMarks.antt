@@ -26,9 +26,9 @@ use Rattle.scan.specs.way.Table.{table_of, safe_over, safe_held, safe_in, pass_i
 use Rattle.scan.specs.Pass.{pass}
 use Rattle.scan.specs.Walk.{after, Reaches}
 use Rattle.scan.proofs.PassLaws.{after_lt}
-use Rattle.scan.proofs.TableLaws.{table_safe, table_clash, table_pass, table_start, table_limit}
+use Rattle.scan.proofs.TableLaws.{table_holds, table_safe, table_clash, table_pass, table_start, table_limit}
 use Rattle.scan.proofs.WalkLaws.{ReachesFrom, safe_reaches, meets_reaches, walk_due, walk_never}
-use Rattle.verdict.specs.Judge.{is_never, endless, scratch_bytes}
+use Rattle.verdict.specs.Judge.{is_never, endless, none_by, none_at, scratch_bytes}
 use Rattle.verdict.specs.way.Marks.{marked, with_mark, mark_byte, marked_where}
 use Rattle.verdict.specs.way.Paths.{passes_to_mark, comes_to_mark, path_marked, settled}
 use Rattle.verdict.proofs.MarksLaws.{byte_lt, mark_length, marked_more, marked_here, marked_passes}
@@ -138,21 +138,26 @@ module _ (s : Set) (ok : well_formed s ≡ true) (w : ℕ) (t : Table) (et : t �
   unfolding has_vector
   clash_none k e = some_false (2 ^ s.n) (safe s w) (λ v h. table_clash s w ok k (ap (λ (y : Table). y.holds) (sym et) ∙ e) v)
 
+  -- and the clash is what the word is told by
+  pub clash_told : (k : ℕ) → t.holds ≡ Clash k → none_by w (Clash k) ≡ none_at s w
+  unfolding none_at
+  clash_told k e = ap (none_by w) (sym e ∙ ap (λ (y : Table). y.holds) et ∙ table_holds s w ok)
+
   -- where the two words of forced outputs are told
   module _ (f0 f1 : ℕ) (forced : t.holds ≡ Forced f0 f1) where
     table_forced : (table_of s (active_of s w)).holds ≡ Forced f0 f1
     table_forced = ap (λ (y : Table). y.holds) (sym et) ∙ forced
 
-    safe_is : safe_over f0 f1 t.plain t.named t.count ≡ safe s w
+    safe_is : safe_over f0 f1 t.entries.plain t.entries.named t.entries.count ≡ safe s w
     safe_is = fun_ext (λ v.
-        ap (λ (h : Holds). safe_held h t.plain t.named t.count v) (sym forced) ∙ ap (λ (x : Table). safe_in x v) et ∙ table_safe s w ok v)
+        ap (λ (h : Holds). safe_held h t.entries.plain t.entries.named t.entries.count v) (sym forced) ∙ ap (λ (x : Table). safe_in x v) et ∙ table_safe s w ok v)
 
     pass_is : pass_in t ≡ pass s w
     pass_is = fun_ext (λ v. ap (λ (x : Table). pass_in x v) et ∙ table_pass s w ok f0 f1 table_forced v)
 
     -- once the safe vectors are marked, the marks are right, and it is told whether there is a safe vector
-    pub marked_safe : (b : Bool) (x : List ℕ) → b ≡ some (2 ^ s.n) (safe_over f0 f1 t.plain t.named t.count)
-        → x ≡ marked_where s.n (safe_over f0 f1 t.plain t.named t.count) → (b ≡ has_vector s w) × Ready s w x
+    pub marked_safe : (b : Bool) (x : List ℕ) → b ≡ some (2 ^ s.n) (safe_over f0 f1 t.entries.plain t.entries.named t.entries.count)
+        → x ≡ marked_where s.n (safe_over f0 f1 t.entries.plain t.entries.named t.entries.count) → (b ≡ has_vector s w) × Ready s w x
     unfolding has_vector
     marked_safe b x eb ex = (
       eb ∙ ap (some (2 ^ s.n)) safe_is,

@@ -2,4 +2,3 @@
 pub mod Marks
 pub mod Paths
 pub mod Seen
-pub mod Left

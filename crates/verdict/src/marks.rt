@@ -7,8 +7,8 @@ ghost use Rattle.scan.specs.way.Eight.{safe_byte};
 ghost use Rattle.verdict.specs.Judge.{scratch_bytes};
 ghost use Rattle.verdict.specs.way.Marks.{marked, with_mark, marked_where, first_vectors, has_mark};
 
-use choice::{either, least};
-use scan::{MOST_CONSTRAINTS, MOST_OUTPUTS, eight_of, low_held, safe_byte};
+use choice::least;
+use scan::{Eight, Entries, MOST_OUTPUTS, low_held};
 
 // The bytes of scratch that a verdict on a set of n outputs needs, one bit for each vector; for more outputs than a set has, those of the most.
 pub fn scratch_bytes(n: usize) -> usize
@@ -40,7 +40,7 @@ pub fn put_mark(marks: &mut [u8], v: u16)
 {
     let i = (v / 8) as usize;
     if i < marks.len() {
-        marks[i] = marks[i] | (1u8 << (v % 8));
+        marks[i] |= 1 << (v % 8);
     }
 }
 
@@ -57,46 +57,26 @@ pub fn first_vectors(n: usize) -> u16
 
 // Marks the safe ones of all vectors, eight at once, and no others, by the entries for that; of each eight vectors those of `held` can be safe. Whether there
 // is one.
-fn mark_bytes<'a>(
-    held: u16,
-    f0: u16,
-    f1: u16,
-    plain: &'a [u16; MOST_CONSTRAINTS],
-    named: &'a [u16; MOST_CONSTRAINTS],
-    low: &'a [u16; MOST_CONSTRAINTS],
-    count: usize,
-    marks: &mut [u8],
-) -> bool
+fn mark_bytes(entries: &Eight, held: u16, f0: u16, f1: u16, marks: &mut [u8]) -> bool
     requires { (held ≤ 255) × (length marks.old ≤ 2 ^ most_outputs) }
-    ensures value { result ≡ some (length marks.old) (has_mark (safe_byte held f0 f1 plain.now named.now low.now count)) }
-    ensures marks_after { marks.new ≡ listed (length marks.old) (safe_byte held f0 f1 plain.now named.now low.now count) }
+    ensures value { result ≡ some (length marks.old) (has_mark (safe_byte held f0 f1 entries.now.high.plain entries.now.high.named entries.now.low entries.now.high.count)) }
+    ensures marks_after { marks.new ≡ listed (length marks.old) (safe_byte held f0 f1 entries.now.high.plain entries.now.high.named entries.now.low entries.now.high.count) }
 {
     let mut any = false;
-    let mut b: usize = 0;
-    while b < marks.len() {
-        let safe = safe_byte(held, f0, f1, plain, named, low, count, b as u16);
+    for b in 0..marks.len() {
+        let safe = entries.safe_byte(held, f0, f1, b as u16);
         marks[b] = safe as u8;
-        any = either(any, safe != 0);
-        b = b + 1;
+        any |= safe != 0;
     }
     any
 }
 
 // Marks the safe vectors of n outputs and no others; whether there is one.
-pub fn mark_safe<'a>(
-    f0: u16,
-    f1: u16,
-    plain: &'a [u16; MOST_CONSTRAINTS],
-    named: &'a [u16; MOST_CONSTRAINTS],
-    count: usize,
-    n: usize,
-    marks: &mut [u8],
-) -> bool
+pub fn mark_safe(entries: &Entries, f0: u16, f1: u16, n: usize, marks: &mut [u8]) -> bool
     requires { (n ≤ most_outputs) × (length marks.old ≡ scratch_bytes n) }
-    ensures value { result ≡ some (2 ^ n) (safe_over f0 f1 plain.now named.now count) }
-    ensures marks_after { marks.new ≡ marked_where n (safe_over f0 f1 plain.now named.now count) }
+    ensures value { result ≡ some (2 ^ n) (safe_over f0 f1 entries.now.plain entries.now.named entries.now.count) }
+    ensures marks_after { marks.new ≡ marked_where n (safe_over f0 f1 entries.now.plain entries.now.named entries.now.count) }
 {
-    let e = eight_of(plain, named, count);
     let held = low_held(f0, f1) & first_vectors(n);
-    mark_bytes(held, f0, f1, &e.plain, &e.named, &e.low, count, marks)
+    mark_bytes(&entries.eight(), held, f0, f1, marks)
 }

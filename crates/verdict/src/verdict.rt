@@ -5,13 +5,12 @@ ghost use Rattle.verdict.specs.Judge.{lacks, judge_words, scratch_bytes, judge_o
 ghost use Rattle.verdict.specs.FirstFailing.{fails, first_failing};
 ghost use Rattle.verdict.specs.way.Paths.{trail_places};
 ghost use Rattle.verdict.specs.way.Seen.{Known};
-ghost use Rattle.verdict.specs.way.Left.{verdict_by};
 
 use super::marks::{mark_safe, scratch_bytes};
 use super::missing::{first_without, none_at};
 use super::paths::{TRAIL, settle};
 use super::seen::{PLACES, is_seen, keep_seen};
-use scan::{Holds, Set, active_in, build_by, columns_of, high_at, lows_of, start_vector};
+use scan::{Holds, Set, columns_of, start_vector};
 use shape::well_formed;
 
 // Accepted, or why not: the first read word without a safe vector, with the lowest output that simple constraints force both ways there, if there is one; or, where
@@ -26,81 +25,61 @@ pub enum Verdict {
     NoEnd { word: u32, request: u16 },
 }
 
-// The verdict by where the loops were left: accepted with all words passed; else the word w fails, with the request g if `any` says that it has a safe vector.
-fn told_by(set: Set, words: u32, any: bool, w: u32, g: u16) -> Verdict
-    requires { well_formed set ≡ true }
-    ensures { result ≡ verdict_by set words any w g }
-{
-    if words <= w {
-        return Verdict::Accepted;
-    }
-    if any {
-        return Verdict::NoEnd {
-            word: w,
-            request: g,
-        };
-    }
-    none_at(set, w)
-}
-
 // The first word that fails, and how, with a bit of scratch for each vector: document 01's loops. A word at which the same constraints are active as at a good
 // word before it is good.
 fn first_failing(
-    set: Set,
+    set: &Set,
     seen: &mut [u64; PLACES],
     marks: &mut [u8],
     trail: &mut [u16; TRAIL],
 ) -> Verdict
-    requires { (well_formed set ≡ true) × (length marks.old ≡ scratch_bytes set.n) × (length trail.old ≡ trail_places) × Known set (fails set) seen.old }
-    ensures value { result ≡ first_failing set }
-    ensures known { Known set (fails set) seen.new }
+    requires { (well_formed set.now ≡ true) × (length marks.old ≡ scratch_bytes set.now.n) × (length trail.old ≡ trail_places) × Known set.now (fails set.now) seen.old }
+    ensures value { result ≡ first_failing set.now }
+    ensures known { Known set.now (fails set.now) seen.new }
 {
     let words = 1u32 << set.r;
     let requests = 1u16 << set.n;
     let by = columns_of(set);
-    let lows = lows_of(&by.read_plain, &by.read_named, set.m);
-    let mut any = true;
+    let lows = by.lows();
     let mut high: u64 = 0;
-    let mut w: u32 = 0;
-    let mut g: u16 = 0;
-    'words: while w < words {
-        high = high_at(&by.read_plain, &by.read_named, set.m, w, high);
-        let active = active_in(&lows.of, high, w);
+    let mut found = Verdict::Accepted;
+    'words: for w in 0..words {
+        high = by.high_at(w, high);
+        let active = lows.active_in(high, w);
         if is_seen(seen, active) {
-            w = w + 1;
             continue 'words;
         }
-        let t = build_by(set, &by.out_plain, &by.out_negated, by.simple, active);
-        let holds = t.holds;
-        let Holds::Forced { f0, f1 } = holds else {
-            any = false;
-            break 'words;
-        };
-        let limit = t.limit;
-        let count = t.count;
-        any = mark_safe(f0, f1, &t.plain, &t.named, count, set.n, marks);
-        if !any {
-            break 'words;
-        }
-        g = 0;
-        while g != requests {
-            let v = start_vector(f0, f1, g);
-            if !settle(&t.plain, &t.named, &t.flip, count, v, limit, marks, trail) {
+        let t = by.table(set, active);
+        let (f0, f1) = match t.holds {
+            Holds::Forced { f0, f1 } => (f0, f1),
+            Holds::Clash { output } => {
+                found = Verdict::Clash { word: w, output };
                 break 'words;
             }
-            g = g + 1;
+        };
+        if !mark_safe(&t.entries, f0, f1, set.n, &mut *marks) {
+            found = none_at(set, w);
+            break 'words;
+        }
+        for g in 0..requests {
+            if !settle(&t, start_vector(f0, f1, g), &mut *marks, &mut *trail) {
+                found = Verdict::NoEnd {
+                    word: w,
+                    request: g,
+                };
+                break 'words;
+            }
         }
         keep_seen(&mut *seen, active);
-        w = w + 1;
     }
-    told_by(set, words, any, w, g)
+    found
 }
 
 // The verdict on the words, by the first of them that fails: an endless walk there gives way to a later word without a safe vector, where no change of ranks would
 // help.
-fn revise(set: Set, found: Verdict, seen: &mut [u64; PLACES]) -> Verdict
-    requires { (well_formed set ≡ true) × (found ≡ first_failing set) × Known set (lacks set) seen.old }
-    ensures { result ≡ judge_words set }
+fn revise(set: &Set, found: Verdict, seen: &mut [u64; PLACES]) -> Verdict
+    requires { (well_formed set.now ≡ true) × (found ≡ first_failing set.now) × Known set.now (lacks set.now) seen.old }
+    ensures { result ≡ judge_words set.now }
 {
     match found {
         Verdict::NoEnd { word, request: _ } => {
@@ -128,6 +107,6 @@ pub fn judge(set: Set, scratch: &mut [u8]) -> Verdict
     }
     let mut seen = [0u64; PLACES];
     let mut trail = [0u16; TRAIL];
-    let found = first_failing(set, &mut seen, &mut scratch[0..bytes], &mut trail);
-    revise(set, found, &mut seen)
+    let found = first_failing(&set, &mut seen, &mut scratch[0..bytes], &mut trail);
+    revise(&set, found, &mut seen)
 }

@@ -37,9 +37,10 @@ reads_named c = bit_or c.read_plain c.read_negated
 unfoldable pub simple_at : Set → ℕ → Bool
 simple_at s i = simple (constraint s i)
 
--- the lists of a set, and the mask of its simple constraints
+-- how many constraints a set has, its lists, and the mask of its simple constraints
 unfoldable pub columns_of : Set → Columns
 columns_of s = record {
+  m = s.m;
   read_plain = column s (λ c. c.read_plain);
   read_named = column s reads_named;
   out_plain = column s (λ c. c.out_plain);

@@ -32,8 +32,11 @@ low_part plain named i = low_true (get_or plain i 0) (get_or named i 0)
 -- of the first `count` entries the outputs from 3 on that are named plain, and all of these that are named; and the bytes of the others
 unfoldable pub eight_of : List ℕ → List ℕ → ℕ → Eight
 eight_of plain named count = record {
-  plain = places_upto (high_part plain) (min count most_constraints);
-  named = places_upto (high_part named) (min count most_constraints);
+  high = record {
+    count = count;
+    plain = places_upto (high_part plain) (min count most_constraints);
+    named = places_upto (high_part named) (min count most_constraints);
+  };
   low = places_upto (low_part plain named) (min count most_constraints);
 }
 
@@ -47,9 +50,9 @@ safe_byte held f0 f1 plain named low count b =
 abbrev pub safe_byte_held : Holds → List ℕ → List ℕ → ℕ → ℕ → ℕ
 safe_byte_held (Forced f0 f1) plain named count b =
     let e = eight_of plain named count in
-    safe_byte (low_held f0 f1) f0 f1 e.plain e.named e.low count b
+    safe_byte (low_held f0 f1) f0 f1 e.high.plain e.high.named e.low count b
 safe_byte_held (Clash k) plain named count b = 0
 
 -- of a table's entries and holds
 unfoldable pub safe_byte_in : Table → ℕ → ℕ
-safe_byte_in t b = safe_byte_held t.holds t.plain t.named t.count b
+safe_byte_in t b = safe_byte_held t.holds t.entries.plain t.entries.named t.entries.count b

@@ -36,25 +36,30 @@ abbrev pub empty_table : Set → Holds → Table
 empty_table s h = record {
   holds = h;
   limit = limit_by (unheld_in s h);
-  count = 0;
-  plain = replicate most_constraints 1;
-  named = replicate most_constraints 0;
+  entries = record { count = 0; plain = replicate most_constraints 1; named = replicate most_constraints 0 };
   flip = replicate most_constraints 0;
 }
 
 -- the table with so many entries
 abbrev pub with_count : ℕ → Table → Table
-with_count count t = record { holds = t.holds; limit = t.limit; count = count; plain = t.plain; named = t.named; flip = t.flip }
+with_count count t = record {
+  holds = t.holds;
+  limit = t.limit;
+  entries = record { count = count; plain = t.entries.plain; named = t.entries.named };
+  flip = t.flip;
+}
 
 -- the table with an entry more, for a constraint and the outputs of it that yield
 abbrev pub with_entry : Constraint → ℕ → Table → Table
 with_entry c y t = record {
   holds = t.holds;
   limit = t.limit;
-  count = t.count + 1;
-  plain = set t.plain t.count c.out_plain;
-  named = set t.named t.count (outs c);
-  flip = set t.flip t.count y;
+  entries = record {
+    count = t.entries.count + 1;
+    plain = set t.entries.plain t.entries.count c.out_plain;
+    named = set t.entries.named t.entries.count (outs c);
+  };
+  flip = set t.flip t.entries.count y;
 }
 
 -- the table with these holds after the first i constraints, those of the mask having an entry
@@ -70,7 +75,7 @@ filled_up count = (count + 15) / 16 * 16
 
 -- the whole table: the entries are filled up to a multiple of sixteen with such that are never true
 unfoldable pub table_by : Set → Holds → ℕ → Table
-table_by s h entered = let t = table_upto s h entered (counted s) in with_count (filled_up t.count) t
+table_by s h entered = let t = table_upto s h entered (counted s) in with_count (filled_up t.entries.count) t
 
 -- the table of a set where the constraints of the mask are active: the simple ones of them hold, the others have an entry
 unfoldable pub table_of : Set → ℕ → Table
@@ -109,11 +114,11 @@ safe_held (Clash k) plain named count v = false
 
 -- safety
 abbrev pub safe_in : Table → ℕ → Bool
-safe_in t = safe_held t.holds t.plain t.named t.count
+safe_in t = safe_held t.holds t.entries.plain t.entries.named t.entries.count
 
 -- a pass
 abbrev pub pass_in : Table → ℕ → ℕ
-pass_in t = pass_over t.plain t.named t.flip t.count
+pass_in t = pass_over t.entries.plain t.entries.named t.flip t.entries.count
 
 -- the walk from a request
 abbrev pub walk_in : Table → ℕ → Walk

@@ -1,13 +1,17 @@
 -- The code's way with walks at a read word: a walk is gone until it meets a mark, and its path is marked; the last vectors of a path are kept in a trail.
 -- `next` is a pass.
 -- Assumes nothing.
-use Rattle.std.specs.Prelude.{◌≡◌, ℕ, zero, suc, ◌+◌, ◌%◌, ◌≤◌, ◌<◌, Bool, cond, not, List, ltb, length, get_or}
+use Rattle.std.specs.Prelude.{◌≡◌, ℕ, zero, suc, ◌+◌, ◌%◌, ◌≤◌, ◌<◌, Bool, cond, not, Option, None, Some, List, ltb, length, get_or}
 use Rattle.words.specs.Loop.{first, iterate}
 use Rattle.verdict.specs.way.Marks.{marked, with_mark}
 
 -- the passes from v to the first vector that is marked; limit + 1 if none of the vectors after 0 to `limit` passes is
 unfoldable pub passes_to_mark : (ℕ → ℕ) → List ℕ → ℕ → ℕ → ℕ
 passes_to_mark next marks limit v = first (limit + 1) (λ k. marked marks (iterate next k v))
+
+-- these passes, if one of these vectors is marked
+unfoldable pub mark_reached : (ℕ → ℕ) → List ℕ → ℕ → ℕ → Option ℕ
+mark_reached next marks limit v = let k = passes_to_mark next marks limit v in cond (ltb limit k) None (Some k)
 
 -- one of these vectors is marked
 unfoldable pub comes_to_mark : (ℕ → ℕ) → List ℕ → ℕ → ℕ → Bool

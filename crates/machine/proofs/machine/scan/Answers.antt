@@ -19,7 +19,7 @@ use Rattle.scan.specs.Walk.{walk}
 use Rattle.scan.proofs.ShapeLaws.{counts}
 use Rattle.machine.proofs.MachineLaws.{state_formed, scan_bad_state, scan_bad_sensor, scan_bad_request, scan_word, scan_walks}
 use Rattle.machine.proofs.machine.scan.Goals as goal
-use Rattle.machine.proofs.machine.scan.Goals.{After-is_sensor_word, After-walk_from-walked, Else-not-fits16, Else-not-is_sensor_word, Else-not-is_state_ok}
+use Rattle.machine.proofs.machine.scan.Goals.{After-is_sensor_word, After-walk_from, Else-not-fits16, Else-not-is_sensor_word, Else-not-is_state_ok}
 
 -- what `refuse` ensures, as an equation
 refuses : (x : Scanned) (st : State) (a : ScanAnswer) → (x.answer ≡ a) × (x.state ≡ st) → x ≡ refused st a
@@ -51,8 +51,8 @@ unfolding request_ok
 request-ok c = sym c.fits16.ensures ∙ not-false c.fits16.result c.if-not-fits16.false-raw
 
 -- behind all three, at a walk that ends at x
-walked : (c : After-walk_from-walked) → let a = c.args in (x : Walk)
-    → c.walk_from-walked.result ≡ x → sending a.state a.sensor x ≡ scan_of a.state a.sensor a.request
+walked : (c : After-walk_from) → let a = c.args in (x : Walk)
+    → c.walk_from.result ≡ x → sending a.state a.sensor x ≡ scan_of a.state a.sensor a.request
 walked c x e =
     let e3 = c in
     let e2 = e3 in
@@ -64,7 +64,7 @@ walked c x e =
     let before : b.sensor_before-past.result ≡ sensor_before a.state.accepted a.state.past_sensor a.sensor = b.sensor_before-past.ensures in
     let all : p.read_points-read.result.word ≡ scan_word a.state a.sensor a.request =
     read ∙ ap (λ (y : ℕ). read_word a.state.set a.state.past_output y a.sensor) before in
-    let ends : c.walk_from-walked.result ≡ walk a.state.set p.read_points-read.result.word a.request = c.walk_from-walked.ensures in
+    let ends : c.walk_from.result ≡ walk a.state.set p.read_points-read.result.word a.request = c.walk_from.ensures in
     ap (sending a.state a.sensor) (sym e ∙ ends ∙ ap (λ (w : ℕ). walk a.state.set w a.request) all)
     ∙ sym (scan_walks a.state a.sensor a.request (state_ok_law c.before.before.before.before.before.before.before.before.before) (sensor-ok c.before.before.before.before) (request-ok c.before.before))
 
@@ -100,14 +100,14 @@ returns-then-not-fits16 c =
     ∙ sym (scan_bad_request a.state a.sensor a.request (state_ok_law (goal.at.returns-then-not-fits16 c).Else-not-is_state_ok) (sensor-ok (goal.at.returns-then-not-fits16 c).Else-not-is_sensor_word)
     (sym f.fits16.ensures ∙ not-true f.fits16.result c.if-not-fits16.true-raw))
 
-pub walk_from-walked-requires : goal.walk_from-walked-requires
-walk_from-walked-requires c = set-formed (goal.at.walk_from-walked-requires c).Else-not-is_state_ok
+pub walk_from-requires : goal.walk_from-requires
+walk_from-requires c = set-formed (goal.at.walk_from-requires c).Else-not-is_state_ok
 
 pub returns-in-Safe : goal.returns-in-Safe
-returns-in-Safe c = walked (goal.at.returns-in-Safe c).After-walk_from-walked _ c.in-Safe.is
+returns-in-Safe c = walked (goal.at.returns-in-Safe c).After-walk_from _ c.in-Safe.is
 
 pub returns-in-Never : goal.returns-in-Never
 returns-in-Never c =
     let w = c in
     let a = w.args in
-    refuses c.refuse-in-Never.result a.state Unsafe c.refuse-in-Never.ensures ∙ walked (goal.at.returns-in-Never c).After-walk_from-walked Never c.in-Never.is
+    refuses c.refuse-in-Never.result a.state Unsafe c.refuse-in-Never.ensures ∙ walked (goal.at.returns-in-Never c).After-walk_from Never c.in-Never.is

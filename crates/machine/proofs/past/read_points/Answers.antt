@@ -13,7 +13,7 @@ use Rattle.machine.proofs.past.read_points.Goals as goal
 pub loop-k-init : goal.loop-k-init
 loop-k-init c =
     let a = c.args in
-    (omega arith, word_none (is_past a.s), word_none (reading_at a.s a.output a.sensor a.present))
+    (word_none (is_past a.s.now), word_none (reading_at a.s.now a.output a.sensor a.present))
 
 pub loop-k-preserved : goal.loop-k-preserved
 unfolding is_past reading_at kind
@@ -24,13 +24,12 @@ loop-k-preserved c =
     let b = i in
     let l = b.loop-k in
     let a = b.args in
-    let past = is_past a.s in
-    let reads = reading_at a.s a.output a.sensor a.present in
+    let past = is_past a.s.now in
+    let reads = reading_at a.s.now a.output a.sensor a.present in
     let is-past : not i.is_sensor.result ≡ past l.k = ap not i.is_sensor.ensures in
     let read : r.reading_of.result ≡ reads l.k = r.reading_of.ensures in (
-      omega arith,
-      word_turn past 32 l.k l.past f.keep32-past.result (not i.is_sensor.result) (omega arith) l.invariant.1 is-past f.keep32-past.ensures,
-      word_turn reads 32 l.k l.word c.keep32-word.result r.reading_of.result (omega arith) l.invariant.2 read c.keep32-word.ensures,
+      word_turn past 32 l.k l.past f.keep32-past.result (not i.is_sensor.result) (omega arith) l.invariant.0 is-past f.keep32-past.ensures,
+      word_turn reads 32 l.k l.word c.keep32-word.result r.reading_of.result (omega arith) l.invariant.1 read c.keep32-word.ensures,
     )
 
 pub returns : goal.returns
@@ -38,7 +37,7 @@ unfolding read_word
 returns c =
     let l = c.loop-k in
     let a = c.args in
-    let all : l.k ≡ a.s.r = omega arith in (
-      l.invariant.1 ∙ ap (λ (k : ℕ). word k (is_past a.s)) all,
-      l.invariant.2 ∙ ap (λ (k : ℕ). word k (reading_at a.s a.output a.sensor a.present)) all,
+    let all : l.k ≡ a.s.now.r = omega arith in (
+      l.invariant.0 ∙ ap (λ (k : ℕ). word k (is_past a.s.now)) all,
+      l.invariant.1 ∙ ap (λ (k : ℕ). word k (reading_at a.s.now a.output a.sensor a.present)) all,
     )

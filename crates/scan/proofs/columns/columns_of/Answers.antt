@@ -16,7 +16,7 @@ use Rattle.scan.proofs.columns.columns_of.Goals as goal
 done : (s : Set) (i : ℕ) (rp rn op on : List ℕ) (simple : ℕ) → i ≡ counted s
     → rp ≡ column_upto s (λ c. c.read_plain) i → rn ≡ column_upto s reads_named i → op ≡ column_upto s (λ c. c.out_plain) i
     → on ≡ column_upto s (λ c. c.out_negated) i → simple ≡ word i (simple_at s)
-    → ◌≡◌ {A = Columns} (record { read_plain = rp; read_named = rn; out_plain = op; out_negated = on; simple = simple }) (columns_of s)
+    → ◌≡◌ {A = Columns} (record { m = s.m; read_plain = rp; read_named = rn; out_plain = op; out_negated = on; simple = simple }) (columns_of s)
 unfolding columns_of
 done s i rp rn op on simple e a b c d m = cc
 
@@ -30,7 +30,7 @@ unfolding column_upto simple_at constraint
 loop-i-preserved c =
     let q = c in
     let l = q.loop-i in
-    let s = q.args.set in (
+    let s = q.args.set.now in (
       places_more (of_each s (λ c. c.read_plain)) l.i _ l.read_plain (omega arith) l.invariant.0 refl,
       places_more (of_each s reads_named) l.i _ l.read_named (omega arith) l.invariant.1 refl,
       places_more (of_each s (λ c. c.out_plain)) l.i _ l.out_plain (omega arith) l.invariant.2 refl,
@@ -42,5 +42,5 @@ loop-i-preserved c =
 pub returns : goal.returns
 returns c =
     let l = c.loop-i in
-    done c.args.set l.i l.read_plain l.read_named l.out_plain l.out_negated l.simple (omega arith)
+    done c.args.set.now l.i l.read_plain l.read_named l.out_plain l.out_negated l.simple (omega arith)
     l.invariant.0 l.invariant.1 l.invariant.2 l.invariant.3 l.invariant.4

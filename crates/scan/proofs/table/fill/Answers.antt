@@ -45,7 +45,7 @@ module _ (s : Set) (h : Holds) (entered i count : ℕ) (plain named flip : List 
   unfolding table_by unheld_in
   done n unheld limit filled en eu el ef e =
       ap₂ (λ (x k : ℕ). table h x k plain named flip) (el ∙ ap limit_by (eu ∙ ap (λ (x : ℕ). unheld_from x h) en)) ef
-      ∙ ap (λ (t : Table). with_count (filled_up t.count) t) (inv ∙ ap (table_upto s h entered) e)
+      ∙ ap (λ (t : Table). with_count (filled_up t.entries.count) t) (inv ∙ ap (table_upto s h entered) e)
 
 -- outputs that are not held are among the first n
 unheld-small : (n : ℕ) (h : Holds) → unheld_from n h < 2 ^ n
@@ -56,7 +56,7 @@ unheld-small n (Clash k) = pow_pos n
 pub loop-i-init : goal.loop-i-init
 loop-i-init c =
     let a = c.args in
-    (omega arith, sym (upto_none a.s a.h a.entered))
+    (omega arith, sym (upto_none a.s.now a.h a.entered))
 
 pub yielding_within-requires : goal.yielding_within-requires
 unfolding constraint
@@ -65,7 +65,7 @@ yielding_within-requires c =
     let u = t in
     let a = u.args in
     let k = u.least-n.result in
-    let own = outs (constraint a.s t.loop-i.i) in (
+    let own = outs (constraint a.s.now t.loop-i.i) in (
       omega (arith, u.least-n.ensures),
       lt_of_le_of_lt (and_le_r own u.unheld_of-unheld.result) (rw u.unheld_of-unheld.ensures (unheld-small k a.h)),
     )
@@ -78,15 +78,15 @@ loop-i-preserved c =
     elim c.if-on.branch [
       | then-on w ↦ (
         omega (arith, w.count-is),
-        (λ k. reached a.s a.h (w.count-is k) (w.plain-is k) (w.named-is k) (w.flip-is k))
-            ∙ on a.s a.h a.entered l.i l.count l.plain l.named l.flip l.invariant.1 (sym c.bit64-on.ensures ∙ w.if-on.true)
+        (λ k. reached a.s.now a.h (w.count-is k) (w.plain-is k) (w.named-is k) (w.flip-is k))
+            ∙ on a.s.now a.h a.entered l.i l.count l.plain l.named l.flip l.invariant.1 (sym c.bit64-on.ensures ∙ w.if-on.true)
             c.least-n.result c.unheld_of-unheld.result w.yielding_within.result c.least-n.ensures c.unheld_of-unheld.ensures
             w.yielding_within.ensures,
       )
       | else-on w ↦ (
         omega (arith, w.count-is),
-        (λ k. reached a.s a.h (w.count-is k) (w.plain-is k) (w.named-is k) (w.flip-is k)) ∙ l.invariant.1
-            ∙ sym (upto_off a.s a.h a.entered l.i (sym c.bit64-on.ensures ∙ w.if-on.false)),
+        (λ k. reached a.s.now a.h (w.count-is k) (w.plain-is k) (w.named-is k) (w.flip-is k)) ∙ l.invariant.1
+            ∙ sym (upto_off a.s.now a.h a.entered l.i (sym c.bit64-on.ensures ∙ w.if-on.false)),
       )
     ]
 
@@ -96,6 +96,6 @@ returns c =
     let l = p.loop-i in
     let u = p in
     let a = u.args in
-    done a.s a.h a.entered l.i l.count l.plain l.named l.flip l.invariant.1
+    done a.s.now a.h a.entered l.i l.count l.plain l.named l.flip l.invariant.1
     u.least-n.result u.unheld_of-unheld.result p.pass_limit.result c.fill_up.result u.least-n.ensures u.unheld_of-unheld.ensures
     p.pass_limit.ensures c.fill_up.ensures (omega arith)

@@ -12,7 +12,7 @@ use Rattle.scan.proofs.table.fill.Given as goal
 -- a table with this pass limit and these entries
 abbrev pub table : Holds → ℕ → ℕ → List ℕ → List ℕ → List ℕ → Table
 table h limit count plain named flip =
-    record { holds = h; limit = limit; count = count; plain = plain; named = named; flip = flip }
+    record { holds = h; limit = limit; entries = record { count = count; plain = plain; named = named }; flip = flip }
 
 -- with the limit that its holds leave
 abbrev pub reached : Set → Holds → ℕ → List ℕ → List ℕ → List ℕ → Table

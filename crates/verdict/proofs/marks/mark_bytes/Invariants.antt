@@ -2,8 +2,7 @@
 -- Assumes nothing.
 use mathlib.Core.Path.{◌≡◌}
 use mathlib.Core.List.{◌++◌}
-use Prim.Native.Nat.{◌≤◌, ◌-◌}
-use lib.ListN.{length, drop}
+use lib.ListN.{drop}
 use Rattle.words.specs.Loop.{some, listed}
 use Rattle.scan.specs.way.Eight.{safe_byte}
 use Rattle.verdict.specs.way.Marks.{has_mark}
@@ -11,8 +10,5 @@ use Rattle.verdict.proofs.marks.mark_bytes.Given as goal
 
 abbrev pub invariant-loop-b : goal.invariant-loop-b
 invariant-loop-b l =
-    (l.b ≤ length l.initial.marks) × (length l.marks ≡ length l.initial.marks) × (l.any ≡ some l.b (has_mark (safe_byte l.held l.f0 l.f1 l.plain l.named l.low l.count)))
-    × (l.marks ≡ listed l.b (safe_byte l.held l.f0 l.f1 l.plain l.named l.low l.count) ++ drop l.b l.initial.marks)
-
-abbrev pub decreases-loop-b : goal.decreases-loop-b
-decreases-loop-b l = length l.initial.marks - l.b
+    (l.any ≡ some l.b (has_mark (safe_byte l.held l.f0 l.f1 l.entries.high.plain l.entries.high.named l.entries.low l.entries.high.count)))
+    × (l.marks ≡ listed l.b (safe_byte l.held l.f0 l.f1 l.entries.high.plain l.entries.high.named l.entries.low l.entries.high.count) ++ drop l.b l.initial.marks)

@@ -3,7 +3,7 @@
 -- Assumes nothing.
 use mathlib.Core.Path.{◌≡◌}
 use mathlib.Core.Bool.{false}
-use Prim.Native.Nat.{◌-◌, ◌^◌, ◌≤◌}
+use Prim.Native.Nat.{◌^◌}
 use Rattle.words.specs.Loop.{some}
 use Rattle.scan.specs.way.Block.{active_high, high_at}
 use Rattle.verdict.specs.Judge.{lacks}
@@ -12,8 +12,5 @@ use Rattle.verdict.proofs.missing.first_without.Given as goal
 
 abbrev pub invariant-loop-w : goal.invariant-loop-w
 invariant-loop-w l =
-    (l.words ≡ 2 ^ l.set.r) × (l.w ≤ l.words) × (some l.w (lacks l.set) ≡ false) × Known l.set (lacks l.set) l.seen
-    × (high_at l.by.read_plain l.by.read_named l.set.m l.w l.high ≡ active_high l.by.read_plain l.by.read_named l.set.m l.w)
-
-abbrev pub decreases-loop-w : goal.decreases-loop-w
-decreases-loop-w l = l.words - l.w
+    (l.words ≡ 2 ^ l.set.r) × (some l.w (lacks l.set) ≡ false) × Known l.set (lacks l.set) l.seen
+    × (high_at l.by.read_plain l.by.read_named l.by.m l.w l.high ≡ active_high l.by.read_plain l.by.read_named l.by.m l.w)

@@ -15,10 +15,10 @@ use Rattle.verdict.proofs.missing.is_any_of.Goals.{Start}
 -- the bytes of a call
 module _ (c : Start) where
   abbrev byte : ℕ → ℕ
-  byte = safe_byte c.args.held 0 0 c.args.plain.now c.args.named.now c.args.low.now c.args.count
+  byte = safe_byte c.args.held 0 0 c.args.entries.now.high.plain c.args.entries.now.high.named c.args.entries.now.low c.args.entries.now.high.count
 
 pub loop-b-init : goal.loop-b-init
-loop-b-init c = (omega arith, some_none _)
+loop-b-init c = some_none _
 
 pub returns-then-safe_byte-ne0 : goal.returns-then-safe_byte-ne0
 returns-then-safe_byte-ne0 c =
@@ -35,11 +35,11 @@ loop-b-preserved c =
     let l = q in
     let s = l in
     let told : q.safe_byte.result ≡ byte (goal.at.loop-b-preserved c).Start l.loop-b.b = q.safe_byte.ensures in
-    (omega arith, some_miss (has_mark (byte (goal.at.loop-b-preserved c).Start)) l.loop-b.b l.loop-b.invariant.1 (ap not (eq-eqb (byte (goal.at.loop-b-preserved c).Start l.loop-b.b) 0 (sym told ∙ c.if-safe_byte-ne0.false))))
+    some_miss (has_mark (byte (goal.at.loop-b-preserved c).Start)) l.loop-b.b l.loop-b.invariant (ap not (eq-eqb (byte (goal.at.loop-b-preserved c).Start l.loop-b.b) 0 (sym told ∙ c.if-safe_byte-ne0.false)))
 
 pub returns : goal.returns
 returns c =
     let l = c in
     let s = l in
     let e : l.loop-b.b ≡ s.args.bytes = omega arith in
-    sym l.loop-b.invariant.1 ∙ ap (λ (n : ℕ). some n (has_mark (byte (goal.at.returns c).Start))) e
+    sym l.loop-b.invariant ∙ ap (λ (n : ℕ). some n (has_mark (byte (goal.at.returns c).Start))) e

@@ -25,8 +25,8 @@ module _ (c : After-scratch_bytes-bytes) where
 pub returns-then-is_safe : goal.returns-then-is_safe
 returns-then-is_safe c =
     let a = c.args in
-    let told : c.is_safe.result ≡ safe_over 0 0 a.plain.now a.named.now a.count 0 = c.is_safe.ensures in
-    sym (some_true (2 ^ a.n) (safe_over 0 0 a.plain.now a.named.now a.count) 0 (pow_pos a.n) (sym told ∙ c.if-is_safe.true))
+    let told : c.is_safe.result ≡ safe_over 0 0 a.entries.now.plain a.entries.now.named a.entries.now.count 0 = c.is_safe.ensures in
+    sym (some_true (2 ^ a.n) (safe_over 0 0 a.entries.now.plain a.entries.now.named a.entries.now.count) 0 (pow_pos a.n) (sym told ∙ c.if-is_safe.true))
 
 pub overflow_cast-bytes : goal.overflow_cast-bytes
 overflow_cast-bytes c = omega (arith, bytes-told (goal.at.overflow_cast-bytes c).After-scratch_bytes-bytes, scratch_mono c.args.n most_outputs c.requires, scratch_eighth most_outputs (omega arith))
@@ -39,9 +39,9 @@ returns c =
     let e = h in
     let a = b.args in
     let held : ℕ = bit_and h.low_held.result v.first_vectors.result in
-    let entries : e.eight_of-e.result ≡ eight_of a.plain.now a.named.now a.count = e.eight_of-e.ensures in
+    let entries : c.eight.result ≡ eight_of a.entries.now.plain a.entries.now.named a.entries.now.count = c.eight.ensures in
     let told : held ≡ bit_and (low_held 0 0) (first_vectors a.n) = ap₂ bit_and h.low_held.ensures v.first_vectors.ensures in
-    let byte : ℕ → ℕ = safe_byte held 0 0 e.eight_of-e.result.plain e.eight_of-e.result.named e.eight_of-e.result.low a.count in
+    let byte : ℕ → ℕ = safe_byte held 0 0 c.eight.result.high.plain c.eight.result.high.named c.eight.result.low c.eight.result.high.count in
     let any : c.is_any_of.result ≡ some b.scratch_bytes-bytes.result (has_mark byte) = c.is_any_of.ensures in
     any ∙ ap (λ (k : ℕ). some k (has_mark byte)) (bytes-told (goal.at.returns c).After-scratch_bytes-bytes)
-    ∙ some_safe a.n a.plain.now a.named.now a.count e.eight_of-e.result entries 0 0 held told
+    ∙ some_safe a.n a.entries.now.plain a.entries.now.named a.entries.now.count c.eight.result entries 0 0 held told

@@ -19,11 +19,11 @@ pub returns-in-Forced : goal.returns-in-Forced
 returns-in-Forced c =
     let h = c in
     let s = h in
-    told s.args.set s.args.w s.requires h.hold-holds.result _ h.hold-holds.ensures c.in-Forced.is
+    told s.args.set.now s.args.w s.requires h.hold-holds.result _ h.hold-holds.ensures c.in-Forced.is
 
 pub returns-in-Clash : goal.returns-in-Clash
 returns-in-Clash c =
     let k = c in
     let h = k in
     let s = h in
-    told s.args.set s.args.w s.requires h.hold-holds.result _ h.hold-holds.ensures k.in-Clash.is
+    told s.args.set.now s.args.w s.requires h.hold-holds.result _ h.hold-holds.ensures k.in-Clash.is

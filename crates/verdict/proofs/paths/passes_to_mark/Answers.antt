@@ -1,63 +1,49 @@
 -- `verdict::paths::passes_to_mark` meets its contract. The invariant: the vectors passed are not marked, the last of them are in the trail. Assumes nothing.
 use mathlib.Core.Path.{◌≡◌, refl, subst}
-use Prim.Native.Nat.{ℕ, ◌+◌, ◌%◌}
+use Prim.Native.Nat.{ℕ, ◌+◌}
 use native.Mathlib.Omega.{arith}
-use lib.ListN.{set}
 use Rattle.words.specs.Loop.{iterate}
 use Rattle.words.proofs.LoopTurns.{some_none}
-use Rattle.scan.specs.way.Table.{pass_over}
-use Rattle.verdict.specs.way.Marks.{marked}
-use Rattle.verdict.specs.way.Paths.{trail_places, Trail}
-use Rattle.verdict.proofs.PathsLaws.{pass_more, come_here, come_on, come_never, trail_none, trail_more}
+use Rattle.scan.specs.way.Table.{pass_in}
+use Rattle.verdict.specs.way.Paths.{Trail}
+use Rattle.verdict.proofs.PathsLaws.{pass_more, come_here, come_on, none_came, reach_some, reach_none, trail_none, trail_more}
 use Rattle.verdict.proofs.paths.passes_to_mark.Goals as goal
-use Rattle.verdict.proofs.paths.passes_to_mark.Goals.{Start}
 
--- the pass of a call
-module _ (c : Start) where
-  abbrev next : ℕ → ℕ
-  next = pass_over c.args.plain.now c.args.named.now c.args.flip.now c.args.count
-
-pub loop-trail-init : goal.loop-trail-init
+pub loop-made-init : goal.loop-made-init
 unfolding iterate
-loop-trail-init c =
-    let s = c in
-    (refl, omega arith, refl, some_none _, trail_none (next (goal.at.loop-trail-init c).Start) s.args.from s.args.trail.now s.requires)
+loop-made-init c =
+    let a = c.args in
+    (refl, some_none _, trail_none (pass_in a.table.now) a.from a.trail.now c.requires)
 
-pub returns-then-most-made : goal.returns-then-most-made
-returns-then-most-made c =
-    let m = c in
-    let l = m in
-    let s = l in
-    let told : m.is_marked.result ≡ marked s.args.marks.now l.loop-trail.v = m.is_marked.ensures in
-    let last : l.loop-trail.made ≡ s.args.limit = omega arith in record {
-      value = come_never (next (goal.at.returns-then-most-made c).Start) s.args.marks.now s.args.limit s.args.from l.loop-trail.made l.loop-trail.v l.loop-trail.invariant.1 l.loop-trail.invariant.2 l.loop-trail.invariant.3
-          m.is_marked.result told c.loop-trail-test.true (omega arith);
-      trail = subst (λ (k : ℕ). Trail (next (goal.at.returns-then-most-made c).Start) s.args.from (k + 1) (set l.loop-trail.trail (l.loop-trail.made % trail_places) l.loop-trail.v)) last
-          (trail_more (next (goal.at.returns-then-most-made c).Start) s.args.from l.loop-trail.made l.loop-trail.v l.loop-trail.trail l.loop-trail.invariant.4 l.loop-trail.invariant.2);
+pub returns-then-is_marked : goal.returns-then-is_marked
+returns-then-is_marked c =
+    let l = c.loop-made in
+    let a = c.args in
+    let next = pass_in a.table.now in
+    let there = come_here next a.marks.now a.table.now.limit a.from l.made l.v (omega arith) l.invariant.0 l.invariant.1
+    c.is_marked.result c.is_marked.ensures c.if-is_marked.true in record {
+      value = reach_some next a.marks.now a.table.now.limit a.from l.made there (omega arith);
+      trail = subst (λ (k : ℕ). Trail next a.from k l.trail) there l.invariant.2;
     }
 
-pub loop-trail-preserved : goal.loop-trail-preserved
-loop-trail-preserved c =
-    let m = c in
-    let l = m in
-    let s = l in
-    let told : m.is_marked.result ≡ marked s.args.marks.now l.loop-trail.v = m.is_marked.ensures in
-    let passed : c.pass_over-v.result ≡ next (goal.at.loop-trail-preserved c).Start l.loop-trail.v = c.pass_over-v.ensures in (
-      refl,
-      omega arith,
-      pass_more (next (goal.at.loop-trail-preserved c).Start) s.args.from l.loop-trail.made l.loop-trail.v c.pass_over-v.result l.loop-trail.invariant.2 passed,
-      come_on (next (goal.at.loop-trail-preserved c).Start) s.args.marks.now s.args.limit s.args.from l.loop-trail.made l.loop-trail.v l.loop-trail.invariant.1 l.loop-trail.invariant.2 l.loop-trail.invariant.3
-          m.is_marked.result told c.loop-trail-test.true,
-      trail_more (next (goal.at.loop-trail-preserved c).Start) s.args.from l.loop-trail.made l.loop-trail.v l.loop-trail.trail l.loop-trail.invariant.4 l.loop-trail.invariant.2,
+pub loop-made-preserved : goal.loop-made-preserved
+loop-made-preserved c =
+    let l = c.loop-made in
+    let a = c.args in
+    let next = pass_in a.table.now in (
+      pass_more next a.from l.made l.v c.pass-v.result l.invariant.0 c.pass-v.ensures,
+      come_on next a.marks.now a.table.now.limit a.from l.made l.v (omega arith) l.invariant.0 l.invariant.1
+          c.is_marked.result c.is_marked.ensures c.if-is_marked.false,
+      trail_more next a.from l.made l.v l.trail l.invariant.2 l.invariant.0,
     )
 
 pub returns : goal.returns
 returns c =
-    let m = c in
-    let l = m in
-    let s = l in
-    let told : m.is_marked.result ≡ marked s.args.marks.now l.loop-trail.v = m.is_marked.ensures in record {
-      value = come_here (next (goal.at.returns c).Start) s.args.marks.now s.args.limit s.args.from l.loop-trail.made l.loop-trail.v l.loop-trail.invariant.1 l.loop-trail.invariant.2 l.loop-trail.invariant.3
-          m.is_marked.result told c.loop-trail-test.false;
-      trail = l.loop-trail.invariant.4;
+    let l = c.loop-made in
+    let a = c.args in
+    let next = pass_in a.table.now in
+    let all : l.made ≡ a.table.now.limit + 1 = omega arith in
+    let due = none_came next a.marks.now a.table.now.limit a.from l.made all l.invariant.1 in record {
+      value = reach_none next a.marks.now a.table.now.limit a.from (omega (arith, all, due));
+      trail = subst (λ (k : ℕ). Trail next a.from k l.trail) due l.invariant.2;
     }

@@ -4,10 +4,11 @@
 -- Assumes nothing.
 use mathlib.Core.Path.{◌≡◌}
 use mathlib.Core.Bool.{false}
-use Prim.Native.Nat.{◌-◌, ◌^◌, ◌≤◌}
+use Prim.Native.Nat.{◌^◌}
 use lib.ListN.{length}
 use Rattle.words.specs.Loop.{some}
 use Rattle.scan.specs.way.Block.{active_high, high_at}
+use Rattle.verdict.specs.declared.verdict.Verdict.TheVariants.{Accepted}
 use Rattle.verdict.specs.Judge.{endless, scratch_bytes}
 use Rattle.verdict.specs.FirstFailing.{fails}
 use Rattle.verdict.specs.way.Paths.{trail_places}
@@ -17,16 +18,10 @@ use Rattle.verdict.proofs.verdict.first_failing.Given as goal
 
 abbrev pub invariant-loop-g : goal.invariant-loop-g
 invariant-loop-g l =
-    (l.g ≤ l.requests) × Ready l.set l.w l.marks × (length l.trail ≡ trail_places) × (some l.g (endless l.set l.w) ≡ false)
-
-abbrev pub decreases-loop-g : goal.decreases-loop-g
-decreases-loop-g l = l.requests - l.g
+    (l.found ≡ Accepted) × Ready l.set l.w l.marks × (length l.trail ≡ trail_places) × (some l.g (endless l.set l.w) ≡ false)
 
 abbrev pub invariant-words : goal.invariant-words
 invariant-words l =
-    (l.words ≡ 2 ^ l.set.r) × (l.requests ≡ 2 ^ l.set.n) × (l.w ≤ l.words) × (length l.marks ≡ scratch_bytes l.set.n) × (length l.trail ≡ trail_places)
-    × (high_at l.by.read_plain l.by.read_named l.set.m l.w l.high ≡ active_high l.by.read_plain l.by.read_named l.set.m l.w)
+    (l.words ≡ 2 ^ l.set.r) × (l.requests ≡ 2 ^ l.set.n) × (l.found ≡ Accepted) × (length l.marks ≡ scratch_bytes l.set.n) × (length l.trail ≡ trail_places)
+    × (high_at l.by.read_plain l.by.read_named l.by.m l.w l.high ≡ active_high l.by.read_plain l.by.read_named l.by.m l.w)
     × (some l.w (fails l.set) ≡ false) × Known l.set (fails l.set) l.seen
-
-abbrev pub decreases-words : goal.decreases-words
-decreases-words l = l.words - l.w

@@ -21,7 +21,7 @@ use Rattle.verdict.proofs.verdict.revise.Goals.{In-NoEnd}
 
 module _ (f : In-NoEnd) where
   abbrev set : Set
-  set = f.args.set
+  set = f.args.set.now
 
   formed : well_formed set ≡ true
   formed = f.requires.0
@@ -79,4 +79,4 @@ returns-else-without-set c =
 pub returns-in_default : goal.returns-in_default
 returns-in_default c =
     let s = c in
-    found_stays s.args.set s.requires.0 s.args.found s.requires.1 c.in_default.not-NoEnd
+    found_stays s.args.set.now s.requires.0 s.args.found s.requires.1 c.in_default.not-NoEnd

@@ -1,9 +1,0 @@
--- `scan::table::pass_over` meets its contract. Assumes nothing.
-use mathlib.Core.Path.{ap}
-use lib.Bits.{bit_xor}
-use Rattle.scan.specs.way.Table.{pass_over}
-use Rattle.scan.proofs.table.pass_over.Goals as goal
-
-pub returns : goal.returns
-unfolding pass_over
-returns c = ap (bit_xor c.args.v) c.flips_over.ensures
