@@ -19,7 +19,7 @@ use Rattle.scan.specs.Shape.{count_tests}
 use Rattle.header.specs.declared.header.Header.TheVariants.{Refused as Stopped, Field}
 use Rattle.header.specs.Header.{header_of, body_of}
 use Rattle.header.specs.declared.numbers.Taken.TheVariants.{Refused as Denied, Good}
-use Rattle.loader.specs.declared.point.KindRead.TheVariants.{Bad, Known}
+use Rattle.std.specs.Prelude.{None as Bad, Some as Known}
 use Rattle.loader.specs.declared.point.NameField.{NameField}
 use Rattle.loader.specs.Load.{refusal, going_on, field_by, counts_told, counts_made, of_counts, counts_at, name_told, name_field, kind_if, kind_of, read_told, read_field}
 

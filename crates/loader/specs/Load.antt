@@ -19,8 +19,8 @@ use Rattle.header.specs.declared.header.Header.TheVariants.{Refused as Stopped, 
 use Rattle.header.specs.declared.numbers.Taken.{Taken}
 use Rattle.header.specs.declared.numbers.Taken.TheVariants.{Refused as Denied, Good}
 use Rattle.literal.specs.declared.literal.Literals.{Literals}
-use Rattle.loader.specs.declared.point.KindRead.{KindRead}
-use Rattle.loader.specs.declared.point.KindRead.TheVariants.{Bad, Known}
+use Rattle.std.specs.Prelude.{Option}
+use Rattle.std.specs.Prelude.{None as Bad, Some as Known}
 use Rattle.loader.specs.declared.point.NameField.{NameField}
 use Rattle.loader.specs.declared.point.ReadField.{ReadField}
 use Rattle.loader.specs.declared.loader.Progress.{Progress}
@@ -111,13 +111,13 @@ name_field used bytes = name_told used (spelling bytes)
 -- ---- 0x02: kind, index, name
 
 -- the kind if the test passes
-abbrev pub kind_if : Bool → Kind → KindRead
+abbrev pub kind_if : Bool → Kind → Option Kind
 kind_if true k = Known k
 kind_if false k = Bad
 
 -- read point i of a set of n outputs: kind 0 is a sensor, index 0; kind 1 the past of an output; kind 2 the past of an earlier read point of kind 0,
 -- as `sensor k` says of read point k
-unfoldable pub kind_of : ℕ → (ℕ → Bool) → ℕ → ℕ → ℕ → KindRead
+unfoldable pub kind_of : ℕ → (ℕ → Bool) → ℕ → ℕ → ℕ → Option Kind
 kind_of n sensor i kind index =
     cond (eqb kind 0) (kind_if (eqb index 0) Sensor)
     (cond (eqb kind 1) (kind_if (ltb index n) (PastOutput index))
@@ -125,7 +125,7 @@ kind_of n sensor i kind index =
     Bad))
 
 -- 6, or the read point of the kind and the name
-abbrev pub read_told : NameField → KindRead → ReadField
+abbrev pub read_told : NameField → Option Kind → ReadField
 read_told named Bad = record { taken = Denied 6; read = zero_read }
 read_told named (Known kind) = record { taken = named.taken; read = record { kind = kind; name = named.name } }
 

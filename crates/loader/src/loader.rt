@@ -120,8 +120,7 @@ fn reads_at<'a>(
     let mut reads = [zero; MOST_READS];
     let mut pasts = [false; MOST_READS];
     let mut next = at;
-    let mut i: usize = 0;
-    while i < r {
+    for i in 0..r {
         let step = read_at(s, next, n, &pasts, &*names, &outputs, i);
         let progress = step.progress;
         match progress {
@@ -136,7 +135,6 @@ fn reads_at<'a>(
                 next = behind;
             }
         }
-        i = i + 1;
     }
     let progress = Progress::At(next);
     Reads { progress, reads }
@@ -158,8 +156,7 @@ fn outputs_at<'a>(
     let mut outputs = [zero; MOST_OUTPUTS];
     let mut own = [none; MOST_OUTPUTS];
     let mut next = at;
-    let mut j: usize = 0;
-    while j < n {
+    for j in 0..n {
         let step = output_at(s, next, names, r, &own, j);
         let progress = step.progress;
         match progress {
@@ -171,7 +168,6 @@ fn outputs_at<'a>(
                 next = behind;
             }
         }
-        j = j + 1;
     }
     Outputs {
         progress: Progress::At(next),

@@ -22,41 +22,34 @@ pub struct ReadField {
     pub read: ReadPoint,
 }
 
-// What two bytes tell of a read point's kind.
-#[derive(Clone, Copy)]
-pub enum KindRead {
-    Bad,
-    Known(Kind),
-}
-
 // The kind of read point i of a set of n outputs, told by two bytes.
-fn kind_of(pasts: &[bool; MOST_READS], n: usize, i: usize, kind: u8, index: u8) -> KindRead
+fn kind_of(pasts: &[bool; MOST_READS], n: usize, i: usize, kind: u8, index: u8) -> Option<Kind>
     requires { i ≤ most_reads }
     ensures { result ≡ kind_of n (not_past pasts.now) i kind index }
 {
     let k = index as usize;
     if kind == 0 {
         if index == 0 {
-            return KindRead::Known(Kind::Sensor);
+            return Some(Kind::Sensor);
         }
-        return KindRead::Bad;
+        return None;
     }
     if kind == 1 {
         if k < n {
-            return KindRead::Known(Kind::PastOutput(index));
+            return Some(Kind::PastOutput(index));
         }
-        return KindRead::Bad;
+        return None;
     }
     if kind == 2 {
         if k < i {
             if pasts[k] {
-                return KindRead::Bad;
+                return None;
             }
-            return KindRead::Known(Kind::PastSensor(index));
+            return Some(Kind::PastSensor(index));
         }
-        return KindRead::Bad;
+        return None;
     }
-    KindRead::Bad
+    None
 }
 
 fn no_name(number: u8) -> NameField
@@ -107,7 +100,7 @@ pub fn read_field<'a>(
 {
     let known = kind_of(pasts, n, i, body[0], body[1]);
     match known {
-        KindRead::Bad => {
+        None => {
             let name = [0u8; NAME_PLACES];
             let read = ReadPoint {
                 kind: Kind::Sensor,
@@ -118,7 +111,7 @@ pub fn read_field<'a>(
                 read,
             }
         }
-        KindRead::Known(kind) => {
+        Some(kind) => {
             let f = name_of(&body[2..], reads, i, outputs, 0);
             let taken = f.taken;
             let name = f.name;

@@ -22,7 +22,7 @@ use Rattle.scan.specs.Names.{all_name_bytes, padded, is_used}
 use Rattle.scan.specs.Shape.{is_sensor}
 use Rattle.shape.proofs.SpellingLaws.{spell_name, spell_strange}
 use Rattle.header.specs.Test.{test}
-use Rattle.loader.specs.declared.point.KindRead.TheVariants.{Bad, Known}
+use Rattle.std.specs.Prelude.{None as Bad, Some as Known}
 use Rattle.loader.specs.declared.point.NameField.{NameField}
 use Rattle.loader.specs.declared.point.ReadField.{ReadField}
 use Rattle.loader.specs.Load.{name_field, kind_of, read_field, sensor_at, read_of, output_of}

@@ -19,8 +19,8 @@ use Rattle.shape.specs.Spelling.{spelling}
 use Rattle.scan.specs.Names.{name_bytes, name_ok, first_output, is_used}
 use Rattle.scan.specs.Shape.{is_sensor, kind_ok}
 use Rattle.header.specs.declared.numbers.Taken.TheVariants.{Refused as Denied, Good}
-use Rattle.loader.specs.declared.point.KindRead.{KindRead}
-use Rattle.loader.specs.declared.point.KindRead.TheVariants.{Bad, Known}
+use Rattle.std.specs.Prelude.{Option}
+use Rattle.std.specs.Prelude.{None as Bad, Some as Known}
 use Rattle.loader.specs.declared.point.NameField.{NameField}
 use Rattle.loader.specs.Load.{name_field, kind_if, kind_of, read_told, read_field, sensor_at, read_of, output_of}
 use Rattle.writer.specs.Write.{kind_bytes, read_body, output_body}
@@ -122,7 +122,7 @@ name_given used bytes some few t = go (spelling bytes).good refl
         never w = let z : ◌≡◌ {A = ℕ} 0 1 = cc in omega arith
 
 module _ (body : List ℕ) (set : Set) (i : ℕ) (some : 3 ≤ length body) (few : length body ≤ 2 + name_places) where
-  by_kind : (kr : KindRead) → kind_of set.n (sensor_at set.reads) i (get_or body 0 0) (get_or body 1 0) ≡ kr → let f = read_told (name_field (is_used set.reads i set.outputs 0) (drop 2 body)) kr in
+  by_kind : (kr : Option Kind) → kind_of set.n (sensor_at set.reads) i (get_or body 0 0) (get_or body 1 0) ≡ kr → let f = read_told (name_field (is_used set.reads i set.outputs 0) (drop 2 body)) kr in
       f.taken ≡ Good → ReadFits set.n set.reads i f.read × (read_body f.read ≡ body)
   by_kind Bad e t = let z : ◌≡◌ {A = ℕ} 0 1 = cc in absurd (omega arith)
   by_kind (Known kind) e t =

@@ -11,7 +11,6 @@ use Rattle.loader.specs.Load.{with_output, output_at, outputs_from}
 use Rattle.loader.specs.way.Load.{points_set, reached}
 use Rattle.loader.proofs.LoadTurns.{output_row, row_end, row_stays, row_goes}
 use Rattle.loader.proofs.LoadWayLaws.{outputs_none, outputs_more, output_stepped}
-use borrow.Author.Rules.{rules}
 use Rattle.loader.proofs.loader.outputs_at.Goals as goal
 use Rattle.loader.proofs.loader.outputs_at.Goals.{After-output_at-step}
 
@@ -28,11 +27,11 @@ module _ (c : After-output_at-step) where
       let l = c.loop-j in
       let a = c.args in
       output_stepped a.s.now l.next (points_set a.r a.n reads l.outputs) a.names.now l.own l.j c.output_at-step.result
-      named l.invariant.1.named c.requires.0 (omega (arith, below)) c.output_at-step.ensures
+      named l.invariant.0.named c.requires.0 (omega (arith, below)) c.output_at-step.ensures
 
 pub loop-j-init : goal.loop-j-init
 unfolding zero_set
-loop-j-init c = (search rules, outputs_none, λ reads named. rw sub-zero)
+loop-j-init c = (outputs_none, λ reads named. rw sub-zero)
 
 pub returns-in-Refused : goal.returns-in-Refused
 returns-in-Refused c reads named =
@@ -40,25 +39,7 @@ returns-in-Refused c reads named =
     let t = h in
     let l = t.loop-j in
     let s = t.args.s.now in
-    row_stays (output_at s) (outputs_from s) (output_row s) _ _ l.j l.next _ (l.invariant.2 reads named) t.loop-j-test.true h.output_at-step.result.progress _ (stepped (goal.at.returns-in-Refused c).After-output_at-step reads named) _ _ _ c.in-Refused.is
-
-pub offset_bounds-outputs-j : goal.offset_bounds-outputs-j
-offset_bounds-outputs-j c = omega (arith, below (goal.at.offset_bounds-outputs-j c).After-output_at-step)
-
-pub bounds-outputs-j : goal.bounds-outputs-j
-bounds-outputs-j c = below (goal.at.bounds-outputs-j c).After-output_at-step
-
-pub offset_bounds-own-j : goal.offset_bounds-own-j
-offset_bounds-own-j c = omega (arith, below (goal.at.offset_bounds-own-j c).After-output_at-step)
-
-pub bounds-own-j : goal.bounds-own-j
-bounds-own-j c = below (goal.at.bounds-own-j c).After-output_at-step
-
-pub overflow_add-j : goal.overflow_add-j
-overflow_add-j c = omega (arith, below (goal.at.overflow_add-j c).After-output_at-step)
-
-pub loop-j-smaller : goal.loop-j-smaller
-loop-j-smaller c = let t = c in omega (arith, t.loop-j-test.true)
+    row_stays (output_at s) (outputs_from s) (output_row s) _ _ l.j l.next _ (l.invariant.1 reads named) t.loop-j-test.true h.output_at-step.result.progress _ (stepped (goal.at.returns-in-Refused c).After-output_at-step reads named) _ _ _ c.in-Refused.is
 
 pub loop-j-preserved : goal.loop-j-preserved
 loop-j-preserved c =
@@ -67,13 +48,12 @@ loop-j-preserved c =
     let t = h in
     let l = t.loop-j in
     let s = t.args.s.now in (
-      omega (arith, t.loop-j-test.true),
-      outputs_more l.own l.outputs l.j (record { name = h.output_at-step.result.name }) (below (goal.at.loop-j-preserved c).After-output_at-step) l.invariant.1,
-      λ reads named. row_goes (output_at s) (outputs_from s) (output_row s) _ _ l.j l.next _ (l.invariant.2 reads named) t.loop-j-test.true h.output_at-step.result.progress _ (stepped (goal.at.loop-j-preserved c).After-output_at-step reads named) _ g.in-At.is,
+      outputs_more l.own l.outputs l.j (record { name = h.output_at-step.result.name }) (below (goal.at.loop-j-preserved c).After-output_at-step) l.invariant.0,
+      λ reads named. row_goes (output_at s) (outputs_from s) (output_row s) _ _ l.j l.next _ (l.invariant.1 reads named) t.loop-j-test.true h.output_at-step.result.progress _ (stepped (goal.at.loop-j-preserved c).After-output_at-step reads named) _ g.in-At.is,
     )
 
 pub returns : goal.returns
 returns c reads named =
     let l = c.loop-j in
     let s = c.args.s.now in
-    row_end (output_at s) (outputs_from s) (output_row s) _ _ l.j l.next _ (l.invariant.2 reads named) c.loop-j-test.false
+    row_end (output_at s) (outputs_from s) (output_row s) _ _ l.j l.next _ (l.invariant.1 reads named) c.loop-j-test.false

@@ -9,7 +9,6 @@ use Rattle.loader.specs.Load.{of_counts, read_at, reads_from, with_read}
 use Rattle.loader.specs.way.Load.{reached}
 use Rattle.loader.proofs.LoadTurns.{read_row, row_end, row_stays, row_goes}
 use Rattle.loader.proofs.LoadWayLaws.{ReadsKnown, reads_none, reads_more, read_stepped}
-use borrow.Author.Rules.{rules}
 use Rattle.loader.proofs.loader.reads_at.Goals as goal
 use Rattle.loader.proofs.loader.reads_at.Goals.{After-read_at-step}
 
@@ -25,13 +24,13 @@ module _ (c : After-read_at-step) where
   stepped =
       let l = c.loop-i in
       let a = c.args in
-      let k = l.invariant.1 in
+      let k = l.invariant.0 in
       read_stepped a.s.now l.next (with_reads (of_counts a.r a.n) l.reads) l.names (replicate most_outputs zero_name) l.pasts l.i c.read_at-step.result
       k.named k.past refl (omega (arith, below)) c.read_at-step.ensures
 
 pub loop-i-init : goal.loop-i-init
 unfolding zero_set
-loop-i-init c = let n = c.requires.1 in (search rules, subst (λ names. ReadsKnown names _ _) (sym n) reads_none, rw sub-zero)
+loop-i-init c = let n = c.requires.1 in (subst (λ names. ReadsKnown names _ _) (sym n) reads_none, rw sub-zero)
 
 pub read_at-step-requires : goal.read_at-step-requires
 read_at-step-requires c = let t = c in omega (arith, t.loop-i-test.true, t.requires.0)
@@ -42,30 +41,9 @@ returns-in-Refused c =
     let t = h in
     let l = t.loop-i in
     let s = t.args.s.now in (
-      row_stays (read_at s) (reads_from s) (read_row s) _ _ l.i l.next _ l.invariant.2 t.loop-i-test.true h.read_at-step.result.progress _ (stepped (goal.at.returns-in-Refused c).After-read_at-step) _ _ _ c.in-Refused.is,
-      l.invariant.1.named,
+      row_stays (read_at s) (reads_from s) (read_row s) _ _ l.i l.next _ l.invariant.1 t.loop-i-test.true h.read_at-step.result.progress _ (stepped (goal.at.returns-in-Refused c).After-read_at-step) _ _ _ c.in-Refused.is,
+      l.invariant.0.named,
     )
-
-pub offset_bounds-reads-i : goal.offset_bounds-reads-i
-offset_bounds-reads-i c = omega (arith, below (goal.at.offset_bounds-reads-i c).After-read_at-step)
-
-pub bounds-reads-i : goal.bounds-reads-i
-bounds-reads-i c = below (goal.at.bounds-reads-i c).After-read_at-step
-
-pub offset_bounds-names-i : goal.offset_bounds-names-i
-offset_bounds-names-i c = omega (arith, below (goal.at.offset_bounds-names-i c).After-read_at-step)
-
-pub bounds-names-i : goal.bounds-names-i
-bounds-names-i c = below (goal.at.bounds-names-i c).After-read_at-step
-
-pub bounds-pasts-i : goal.bounds-pasts-i
-bounds-pasts-i c = below (goal.at.bounds-pasts-i c).After-read_at-step
-
-pub overflow_add-i : goal.overflow_add-i
-overflow_add-i c = omega (arith, below (goal.at.overflow_add-i c).After-read_at-step)
-
-pub loop-i-smaller : goal.loop-i-smaller
-loop-i-smaller c = let t = c in omega (arith, t.loop-i-test.true)
 
 pub loop-i-preserved : goal.loop-i-preserved
 loop-i-preserved c =
@@ -74,13 +52,12 @@ loop-i-preserved c =
     let t = h in
     let l = t.loop-i in
     let s = t.args.s.now in (
-      omega (arith, t.loop-i-test.true),
-      reads_more l.names l.pasts l.reads l.i h.read_at-step.result.read c.is_sensor.result (below (goal.at.loop-i-preserved c).After-read_at-step) c.is_sensor.ensures l.invariant.1,
-      row_goes (read_at s) (reads_from s) (read_row s) _ _ l.i l.next _ l.invariant.2 t.loop-i-test.true h.read_at-step.result.progress _ (stepped (goal.at.loop-i-preserved c).After-read_at-step) _ g.in-At.is,
+      reads_more l.names l.pasts l.reads l.i h.read_at-step.result.read c.is_sensor.result (below (goal.at.loop-i-preserved c).After-read_at-step) c.is_sensor.ensures l.invariant.0,
+      row_goes (read_at s) (reads_from s) (read_row s) _ _ l.i l.next _ l.invariant.1 t.loop-i-test.true h.read_at-step.result.progress _ (stepped (goal.at.loop-i-preserved c).After-read_at-step) _ g.in-At.is,
     )
 
 pub returns : goal.returns
 returns c =
     let l = c.loop-i in
     let s = c.args.s.now in
-    (row_end (read_at s) (reads_from s) (read_row s) _ _ l.i l.next _ l.invariant.2 c.loop-i-test.false, l.invariant.1.named)
+    (row_end (read_at s) (reads_from s) (read_row s) _ _ l.i l.next _ l.invariant.1 c.loop-i-test.false, l.invariant.0.named)

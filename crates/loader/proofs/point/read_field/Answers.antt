@@ -8,18 +8,18 @@ use Rattle.loader.specs.way.Load.{not_past}
 use Rattle.loader.proofs.LoadLaws.{rest_of, read_bad, read_known}
 use Rattle.loader.proofs.point.read_field.Goals as goal
 
-pub returns-in-Bad : goal.returns-in-Bad
-returns-in-Bad c =
+pub returns-in-None : goal.returns-in-None
+returns-in-None c =
     let k = c in
     let a = k.args in
-    sym (read_bad a.n (not_past a.pasts.now) (name_used a.reads.now (min a.i most_reads) a.outputs.now 0) a.i a.body.now (sym k.kind_of-known.ensures ∙ c.in-Bad.is))
+    sym (read_bad a.n (not_past a.pasts.now) (name_used a.reads.now (min a.i most_reads) a.outputs.now 0) a.i a.body.now (sym k.kind_of-known.ensures ∙ c.in-None.is))
 
-pub returns-in-Known : goal.returns-in-Known
-returns-in-Known c =
+pub returns-in-Some : goal.returns-in-Some
+returns-in-Some c =
     let f = c in
     let w = f in
     let k = w in
     let a = k.args in
     let used = name_used a.reads.now (min a.i most_reads) a.outputs.now 0 in
-    sym (read_known a.n (not_past a.pasts.now) used a.i a.body.now w.in-Known.kind f.name_of-f.result
-    (sym k.kind_of-known.ensures ∙ w.in-Known.is) (f.name_of-f.ensures ∙ ap (name_field used) (rest_of 2 a.body.now)))
+    sym (read_known a.n (not_past a.pasts.now) used a.i a.body.now w.in-Some.kind f.name_of-f.result
+    (sym k.kind_of-known.ensures ∙ w.in-Some.is) (f.name_of-f.ensures ∙ ap (name_field used) (rest_of 2 a.body.now)))
