@@ -13,11 +13,12 @@ use borrow.Author.Tests.{not-true, lt-ltb, le-ltb, ltb-false, leb-true, leb-fals
 use Rattle.words.proofs.BoolLaws.{clash, by_test, and_true, or_true, or_false}
 use Rattle.scan.specs.Set.{most_constraints, name_places}
 use Rattle.header.specs.Tag.{is_constraint, is_wide, tag_by, literal_size}
-use Rattle.header.specs.declared.header.RawField.{RawField}
-use Rattle.header.specs.declared.header.RawField.TheVariants.{Cut, Field as Whole}
-use Rattle.header.specs.Header.{body_length, is_cut, raw_of, tag_bound, shortest, longest, step, fits_table, is_due, need, header_by, header_of, front_of}
-use Rattle.header.specs.declared.header.Header.{Header}
-use Rattle.header.specs.declared.header.Header.TheVariants.{Refused, Field}
+use Rattle.std.specs.Prelude.{Option, None as Cut, Some, Ok, Err}
+use Rattle.header.specs.declared.header.Field.{Field as FieldRead}
+use Rattle.header.specs.declared.numbers.Refusal.{Refusal}
+use Rattle.header.specs.Fault.{number}
+use Rattle.header.specs.Header.{whole, body_length, is_cut, raw_of, tag_bound, shortest, longest, step, fits_table, is_due, need, header_by, header_of, front_of, Header, Refused, Field}
+use Rattle.header.specs.way.Header.{front_told}
 use Rattle.header.specs.declared.reader.FrontField.{FrontField}
 
 -- ---- the table
@@ -44,6 +45,15 @@ table_bounds tag len e =
 
 -- ---- the field at the front of what is left
 
+-- what a field that is there says
+tag_in : Option FieldRead → ℕ
+tag_in Cut = 0
+tag_in (Some f) = f.tag
+
+len_in : Option FieldRead → ℕ
+len_in Cut = 0
+len_in (Some f) = f.len
+
 module _ (s : List ℕ) where
   pub cut_header : length s < 3 → is_cut s ≡ true
   cut_header h = ap (λ (b : Bool). b || ltb (length s) (3 + body_length s)) (lt-ltb _ _ h)
@@ -56,11 +66,11 @@ module _ (s : List ℕ) where
 
   pub raw_cut : is_cut s ≡ true → raw_of s ≡ Cut
   unfolding raw_of
-  raw_cut e = ap (λ (b : Bool). cond b Cut (Whole (get_or s 0 0) (body_length s))) e
+  raw_cut e = ap (λ (b : Bool). cond b Cut (whole (get_or s 0 0) (body_length s))) e
 
-  pub raw_field : is_cut s ≡ false → raw_of s ≡ Whole (get_or s 0 0) (body_length s)
+  pub raw_field : is_cut s ≡ false → raw_of s ≡ whole (get_or s 0 0) (body_length s)
   unfolding raw_of
-  raw_field e = ap (λ (b : Bool). cond b Cut (Whole (get_or s 0 0) (body_length s))) e
+  raw_field e = ap (λ (b : Bool). cond b Cut (whole (get_or s 0 0) (body_length s))) e
 
   -- what a field that is there tells
   pub record Told (tag len : ℕ) : Type 0 where
@@ -68,18 +78,19 @@ module _ (s : List ℕ) where
     pub length_is : body_length s ≡ len
     pub within : 3 + len ≤ length s
 
-  pub raw_told : (tag len : ℕ) → raw_of s ≡ Whole tag len → Told tag len
+  pub raw_told : (tag len : ℕ) → raw_of s ≡ whole tag len → Told tag len
+  unfolding len_in tag_in
   raw_told tag len e = by_test (is_cut s) (λ q. absurd (never (sym (raw_cut q) ∙ e))) go
     where
-      never : Cut ≡ Whole tag len → ⊥
+      never : Cut ≡ whole tag len → ⊥
       never x = let z : ◌≡◌ {A = ℕ} 0 1 = cc in omega arith
 
       go : is_cut s ≡ false → Told tag len
       go q =
-          let f : Whole (get_or s 0 0) (body_length s) ≡ Whole tag len = sym (raw_field q) ∙ e in
-          let l : body_length s ≡ len = cc in
+          let f : whole (get_or s 0 0) (body_length s) ≡ whole tag len = sym (raw_field q) ∙ e in
+          let l : body_length s ≡ len = ap len_in f in
           let w = ltb-false (length s) (3 + body_length s) (or_false (ltb (length s) 3) _ q).1 in
-          record { tag_is = cc; length_is = l; within = omega arith }
+          record { tag_is = ap tag_in f; length_is = l; within = omega arith }
 
 -- the header of what is left from a place on
 module _ (s : List ℕ) (place : ℕ) where
@@ -96,7 +107,7 @@ module _ (s : List ℕ) (due m : ℕ) where
   unfolding header_of
   past_end e = rw e
 
-  module _ (tag len : ℕ) (e : raw_of s ≡ Whole tag len) where
+  module _ (tag len : ℕ) (e : raw_of s ≡ whole tag len) where
     pub not_due : is_due due tag ≡ false → header_of s due m ≡ Refused 2
     unfolding header_of
     not_due d = rw (e, d)
@@ -133,15 +144,17 @@ pub found : (s : List ℕ) (due m tag len : ℕ) → header_of s due m ≡ Field
 unfolding header_of
 found s due m tag len e = go (raw_of s) refl e
   where
-    go : (f : RawField) → raw_of s ≡ f → header_by due m f ≡ Field tag len → Found s due m tag len
+    go : (f : Option FieldRead) → raw_of s ≡ f → header_by due m f ≡ Field tag len → Found s due m tag len
     go Cut q e = let z : ◌≡◌ {A = ℕ} 0 1 = cc in absurd (omega arith)
-    go (Whole k j) q e =
+    go (Some f) q e =
+        let k = f.tag in
+        let j = f.len in
         let a = passed (is_due due k) 2 _ tag len e in
         let b = passed (not (is_constraint k && leb most_constraints m)) 3 _ tag len a.1 in
         let c = passed (fits_table k j) 4 _ tag len b.1 in
         let t : k ≡ tag = let h = c.1 in cc in
         let l : j ≡ len = let h = c.1 in cc in
-        let told = raw_told s tag len (q ∙ ap₂ Whole t l) in
+        let told = raw_told s tag len (q ∙ ap₂ whole t l) in
         record {
           tag_is = told.tag_is;
           length_is = told.length_is;
@@ -212,15 +225,29 @@ constraint_length s m tag len n e = go (is_wide tag) refl (constraint_due tag n 
 
 -- ---- the field at a place of a file
 
-module _ (s : List ℕ) (at due m : ℕ) (f : FrontField) (e : f ≡ front_of s at due m) where
-  -- its first byte is at that place
-  pub front_place : f.at ≡ at
-  front_place = λ i. (e i).at
+module _ (s : List ℕ) (at due m : ℕ) where
+  module _ (f : FrontField) (e : front_told (Ok f) ≡ front_of s at due m) where
+    -- its first byte is at that place
+    pub front_place : f.at ≡ at
+    front_place = λ i. (e i).at
 
-  -- its header is the one at that place
-  pub front_there : header_of (drop at s) due m ≡ f.header
-  front_there = λ i. (sym e i).header
+    -- its header is the one at that place
+    pub front_there : header_of (drop at s) due m ≡ Field f.tag f.len
+    front_there = λ i. (sym e i).header
 
-  -- which is the one at the offset that it tells
-  pub front_header : header_of (drop f.at s) due m ≡ f.header
-  front_header = ap (λ (x : ℕ). header_of (drop x s) due m) front_place ∙ front_there
+    -- which is the one at the offset that it tells
+    pub front_header : header_of (drop f.at s) due m ≡ Field f.tag f.len
+    front_header = ap (λ (x : ℕ). header_of (drop x s) due m) front_place ∙ front_there
+
+    -- it is within the file
+    pub front_within : f.at + 3 + f.len ≤ length s
+    front_within = field_within s f.at due m f.tag f.len front_header
+
+  module _ (r : Refusal) (e : front_told (Err r) ≡ front_of s at due m) where
+    -- the refusal tells that place
+    pub stopped_place : r.offset ≡ at
+    stopped_place = λ i. (e i).at
+
+    -- and what the header there is refused for
+    pub stopped_there : header_of (drop at s) due m ≡ Refused (number r.fault)
+    stopped_there = λ i. (sym e i).header

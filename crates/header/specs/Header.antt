@@ -1,14 +1,10 @@
 -- A field: one-byte tag, two-byte length (high byte first), body. First what every kind of file shares: the field at the front of what is left,
 -- whatever its tag. Then the tests 1 to 4 of a set file's field, in that order.
 -- Assumes nothing.
-use Rattle.std.specs.Prelude.{ℕ, ◌+◌, ◌*◌, ◌%◌, Bool, true, false, cond, not, ◌&&◌, ◌||◌, List, [], ◌∷◌, ltb, leb, eqb, length, get_or, take, drop}
+use Rattle.std.specs.Prelude.{ℕ, ◌+◌, ◌*◌, ◌%◌, Bool, true, false, cond, not, ◌&&◌, ◌||◌, List, [], ◌∷◌, Option, None as Cut, Some, ltb, leb, eqb, length, get_or, take, drop}
 use Rattle.scan.specs.Set.{most_constraints}
 use Rattle.header.specs.Tag.{is_constraint}
-use Rattle.header.specs.declared.header.RawField.{RawField}
-use Rattle.header.specs.declared.header.RawField.TheVariants.{Cut, Field as Whole}
-use Rattle.header.specs.declared.header.Header.{Header}
-use Rattle.header.specs.declared.header.Header.TheVariants.{Refused, Field}
-use Rattle.header.specs.declared.reader.FrontField.{FrontField}
+use Rattle.header.specs.declared.header.Field.{Field as FieldRead}
 
 -- ---- the field at the front of what is left, whatever its tag
 
@@ -20,9 +16,13 @@ body_length s = get_or s 1 0 * 256 + get_or s 2 0
 abbrev pub is_cut : List ℕ → Bool
 is_cut s = ltb (length s) 3 || ltb (length s) (3 + body_length s)
 
+-- a field of this tag and a body of this length
+abbrev pub whole : ℕ → ℕ → Option FieldRead
+whole tag len = Some (record { tag = tag; len = len })
+
 -- that it is cut, or its tag and the length of its body
-unfoldable pub raw_of : List ℕ → RawField
-raw_of s = cond (is_cut s) Cut (Whole (get_or s 0 0) (body_length s))
+unfoldable pub raw_of : List ℕ → Option FieldRead
+raw_of s = cond (is_cut s) Cut (whole (get_or s 0 0) (body_length s))
 
 -- the body of such a field
 abbrev pub body_of : List ℕ → ℕ → List ℕ
@@ -56,24 +56,34 @@ fits_table tag len = ltb tag tag_bound && (leb (shortest tag) len && (leb len (l
 abbrev pub is_due : ℕ → ℕ → Bool
 is_due due tag = eqb tag due || (eqb due 4 && (eqb tag 5 || eqb tag 7))
 
+-- a refusal's number; or the tag and the length of the body
+pub data Header : Type 0 where
+  Refused : ℕ → Header
+  Field : ℕ → ℕ → Header
+
 -- the rest if the test passes, else the refusal
 abbrev pub need : Bool → ℕ → Header → Header
 need true number rest = rest
 need false number rest = Refused number
 
 -- 1, or the tests 2 to 4 of a field that is there, where the tag `due` is due and m constraints have been loaded
-abbrev pub header_by : ℕ → ℕ → RawField → Header
+abbrev pub header_by : ℕ → ℕ → Option FieldRead → Header
 header_by due m Cut = Refused 1
-header_by due m (Whole tag len) =
-    need (is_due due tag) 2
-    (need (not (is_constraint tag && leb most_constraints m)) 3
-    (need (fits_table tag len) 4
-    (Field tag len)))
+header_by due m (Some f) =
+    need (is_due due f.tag) 2
+    (need (not (is_constraint f.tag && leb most_constraints m)) 3
+    (need (fits_table f.tag f.len) 4
+    (Field f.tag f.len)))
 
 -- the field's tag and the length of its body, or the refusal
 unfoldable pub header_of : List ℕ → ℕ → ℕ → Header
 header_of s due m = header_by due m (raw_of s)
 
--- the field at the place `at` of the file s: its header, beside the offset of its first byte
-abbrev pub front_of : List ℕ → ℕ → ℕ → ℕ → FrontField
+-- a field's header, beside the offset of its first byte
+pub record Front : Type 0 where
+  pub header : Header
+  pub at : ℕ
+
+-- the field at the place `at` of the file s
+abbrev pub front_of : List ℕ → ℕ → ℕ → ℕ → Front
 front_of s at due m = record { header = header_of (drop at s) due m; at = at }

@@ -1,4 +1,6 @@
 pub mod Tag
+pub mod Fault
 pub mod Header
 pub mod Bytes
 pub mod Test
+pub mod way

@@ -1,10 +1,9 @@
 // A field's header: one-byte tag, two-byte length, high byte first.
 ghost use Rattle.std.specs.Prelude.{◌≡◌, drop};
 ghost use Rattle.header.specs.Header.{raw_of, fits_table, is_due, header_of};
+ghost use Rattle.header.specs.way.Header.{header_told};
 
-use super::numbers::{
-    BAD_LENGTH, MANY_CONSTRAINTS, PAST_END, TAG_CONSTRAINT, TAG_END, TAG_NOT_DUE, TAG_WIDE,
-};
+use super::numbers::{Fault, TAG_CONSTRAINT, TAG_END, TAG_WIDE};
 use super::tag::is_constraint;
 use choice::either;
 use scan::MOST_CONSTRAINTS;
@@ -19,18 +18,11 @@ const LONGEST: [u8; TAG_BOUND] = [0, 2, 10, 8, 48, 0, 2, 72];
 
 const STEP: [u8; TAG_BOUND] = [1, 1, 1, 1, 2, 1, 1, 3];
 
-// A field whatever its tag: header or body runs past the end; or the tag and the length of the body.
-#[derive(Clone, Copy)]
-pub enum RawField {
-    Cut,
-    Field(u8, usize),
-}
-
-// A refusal's number; or the tag and the length of the body.
-#[derive(Clone, Copy)]
-pub enum Header {
-    Refused(u8),
-    Field(u8, usize),
+// A field: its tag, and the length of its body.
+#[derive(Clone, Copy, Debug, PartialEq, Eq)]
+pub struct Field {
+    pub tag: u8,
+    pub len: usize,
 }
 
 fn wide(x: u8) -> usize
@@ -39,25 +31,25 @@ fn wide(x: u8) -> usize
     x as usize
 }
 
-// The field at `at`, whatever its tag.
-pub fn field_at(s: &[u8], at: usize) -> RawField
+// The field at `at`, whatever its tag; none where header or body runs past the end.
+pub fn field_at(s: &[u8], at: usize) -> Option<Field>
     ensures { result ≡ raw_of (drop at s.now) }
 {
     if s.len() < 3 {
-        return RawField::Cut;
+        return None;
     }
     let last = s.len() - 3;
     if last < at {
-        return RawField::Cut;
+        return None;
     }
     let tag = s[at];
     let high = wide(s[at + 1]);
     let low = wide(s[at + 2]);
     let len = high * 256 + low;
     if last - at < len {
-        return RawField::Cut;
+        return None;
     }
-    RawField::Field(tag, len)
+    Some(Field { tag, len })
 }
 
 fn fits_table(tag: u8, len: usize) -> bool
@@ -92,26 +84,19 @@ fn is_due(due: u8, tag: u8) -> bool
     false
 }
 
-// The header of the field at `at`, where the tag `due` is due and m constraints have been loaded.
-pub fn header_at(s: &[u8], at: usize, due: u8, m: usize) -> Header
-    ensures { result ≡ header_of (drop at s.now) due m }
+// The field at `at`, where the tag `due` is due and m constraints have been loaded.
+pub fn header_at(s: &[u8], at: usize, due: u8, m: usize) -> Result<Field, Fault>
+    ensures { header_told result ≡ header_of (drop at s.now) due m }
 {
-    let field = field_at(s, at);
-    match field {
-        RawField::Cut => Header::Refused(PAST_END),
-        RawField::Field(tag, len) => {
-            if !is_due(due, tag) {
-                return Header::Refused(TAG_NOT_DUE);
-            }
-            if is_constraint(tag) {
-                if MOST_CONSTRAINTS <= m {
-                    return Header::Refused(MANY_CONSTRAINTS);
-                }
-            }
-            if !fits_table(tag, len) {
-                return Header::Refused(BAD_LENGTH);
-            }
-            Header::Field(tag, len)
-        }
+    let field = field_at(s, at).ok_or(Fault::PastEnd)?;
+    if !is_due(due, field.tag) {
+        return Err(Fault::TagNotDue);
     }
+    if is_constraint(field.tag) && MOST_CONSTRAINTS <= m {
+        return Err(Fault::ManyConstraints);
+    }
+    if !fits_table(field.tag, field.len) {
+        return Err(Fault::BadLength);
+    }
+    Ok(field)
 }

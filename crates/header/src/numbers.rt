@@ -1,39 +1,40 @@
-// Numbers of refusals, as document 01 and the change requests have them, and the tags of fields.
+// Why a set file is refused, by document 01's numbers and those of the change requests, and the tags of fields.
+ghost use Rattle.std.specs.Prelude.{◌≡◌};
+ghost use Rattle.header.specs.Fault.{number};
 
-// A refusal's number, or that what was read is good.
-#[derive(Clone, Copy)]
-pub enum Taken {
-    Refused(u8),
-    Good,
+#[derive(Clone, Copy, Debug, PartialEq, Eq)]
+pub enum Fault {
+    PastEnd = 1,
+    TagNotDue = 2,
+    ManyConstraints = 3,
+    BadLength = 4,
+    BadCounts = 5,
+    BadKind = 6,
+    BadNameByte = 7,
+    NameUsed = 8,
+    BadLiteral = 9,
+    NotRising = 10,
+    NoOutput = 11,
+    BytesFollow = 12,
+    BadRest = 54,
+    NoHighRead = 59,
 }
 
-pub const PAST_END: u8 = 1;
+impl Fault {
+    // The refusal's number.
+    pub fn number(self) -> u8
+        ensures { result ≡ number self }
+    {
+        self as u8
+    }
+}
 
-pub const TAG_NOT_DUE: u8 = 2;
-
-pub const MANY_CONSTRAINTS: u8 = 3;
-
-pub const BAD_LENGTH: u8 = 4;
-
-pub const BAD_COUNTS: u8 = 5;
-
-pub const BAD_KIND: u8 = 6;
-
-pub const BAD_NAME_BYTE: u8 = 7;
-
-pub const NAME_USED: u8 = 8;
-
-pub const BAD_LITERAL: u8 = 9;
-
-pub const NOT_RISING: u8 = 10;
-
-pub const NO_OUTPUT: u8 = 11;
-
-pub const BYTES_FOLLOW: u8 = 12;
-
-pub const BAD_REST: u8 = 54;
-
-pub const NO_HIGH_READ: u8 = 59;
+// A fault, and the offset of the first byte of the field that has it.
+#[derive(Clone, Copy, Debug, PartialEq, Eq)]
+pub struct Refusal {
+    pub fault: Fault,
+    pub offset: usize,
+}
 
 pub const TAG_COUNTS: u8 = 0x01;
 

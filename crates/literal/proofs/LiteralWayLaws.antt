@@ -18,9 +18,8 @@ use Rattle.words.proofs.BoolLaws.{by_test}
 use Rattle.scan.specs.declared.set.Constraint.{Constraint}
 use Rattle.scan.specs.Set.{most_reads, most_outputs}
 use Rattle.literal.specs.declared.literal.Said.{Said}
-use Rattle.literal.specs.declared.literal.Literals.{Literals}
+use Rattle.literal.specs.Literal.{Literals, narrows, wides, said_by, place, is_literal, with_bit, with_literal, last_literal, literals_from}
 use Rattle.header.specs.Tag.{literal_size}
-use Rattle.literal.specs.Literal.{narrows, wides, said_by, place, is_literal, with_bit, with_literal, last_literal, literals_from}
 use Rattle.literal.specs.way.Literal.{said_at, sign_bits, bit_at, in_word, part, of_word}
 use Rattle.literal.proofs.LiteralLaws.{room, one_more}
 

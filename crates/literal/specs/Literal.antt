@@ -8,8 +8,7 @@ use Rattle.scan.specs.declared.set.Constraint.{Constraint}
 use Rattle.scan.specs.Set.{most_reads, zero_constraint}
 use Rattle.header.specs.Tag.{names_high}
 use Rattle.literal.specs.declared.literal.Said.{Said}
-use Rattle.header.specs.declared.numbers.Taken.TheVariants.{Refused, Good}
-use Rattle.literal.specs.declared.literal.Literals.{Literals}
+use Rattle.header.specs.Fault.{Taken, Refused, Good}
 
 -- ---- what bytes say
 
@@ -86,6 +85,11 @@ with_literal c l =
     (cond l.negated
     (record { read_plain = c.read_plain; read_negated = with_bit c.read_negated l.number; out_plain = c.out_plain; out_negated = c.out_negated; ranks = c.ranks })
     (record { read_plain = with_bit c.read_plain l.number; read_negated = c.read_negated; out_plain = c.out_plain; out_negated = c.out_negated; ranks = c.ranks }))
+
+-- what the literals of a body give: whether they are taken, and the constraint made of them
+pub record Literals : Type 0 where
+  pub taken : Taken
+  pub made : Constraint
 
 -- a refusal, beside a constraint of zeros
 abbrev pub refused_literals : ℕ → Literals

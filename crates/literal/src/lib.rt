@@ -3,4 +3,4 @@
 
 mod literal; // what bytes say, and what is said taken into masks and ranks
 
-pub use literal::{Literals, literals_of};
+pub use literal::literals_of;

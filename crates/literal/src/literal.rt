@@ -2,11 +2,11 @@
 ghost use Rattle.std.specs.Prelude.{◌≡◌, ◌+◌, ◌≤◌, ◌<◌, min, length};
 ghost use Rattle.scan.specs.Set.{most_reads, most_outputs};
 ghost use Rattle.header.specs.Tag.{literal_size};
-ghost use Rattle.literal.specs.Literal.{is_output, is_negated, spare, four_bits, narrow, six_bits, wide, place, is_literal, last_literal, literals_of, refused_literals};
-ghost use Rattle.literal.specs.way.Literal.{literal_at, said_at, sign_bits, in_word, of_word};
+ghost use Rattle.literal.specs.Literal.{is_output, is_negated, spare, four_bits, narrow, six_bits, wide, place, is_literal, last_literal, literals_of};
+ghost use Rattle.literal.specs.way.Literal.{literal_at, said_at, sign_bits, in_word, of_word, literals_told};
 
 use choice::{both, least};
-use header::{BAD_LITERAL, NO_HIGH_READ, NO_OUTPUT, NOT_RISING, Taken, literal_size, names_high};
+use header::{Fault, literal_size, names_high};
 use scan::{Constraint, MOST_OUTPUTS, MOST_READS};
 
 // A literal as its bytes say it. clear: the bits that have to be zero are.
@@ -17,12 +17,6 @@ pub struct Said {
     pub negated: bool,
     pub number: usize,
     pub rank: u8,
-}
-
-#[derive(Clone, Copy)]
-pub struct Literals {
-    pub taken: Taken,
-    pub made: Constraint,
 }
 
 // The bits of a word for the literals of one sign: no fewer than the places of literals.
@@ -174,39 +168,30 @@ fn constraint_of(word: u64, ranks: [u8; MOST_OUTPUTS]) -> Constraint
     }
 }
 
-fn refused_literals(number: u8) -> Literals
-    ensures { result ≡ refused_literals number }
-{
-    let ranks = [0u8; MOST_OUTPUTS];
-    let made = constraint_of(0, ranks);
-    Literals {
-        taken: Taken::Refused(number),
-        made,
-    }
-}
-
 // After the last literal: a wide body names a read point above 15, and every body an output. `next` is the place behind the last literal.
-fn last_literal(wide: bool, next: usize, word: u64, ranks: [u8; MOST_OUTPUTS]) -> Literals
-    ensures { result ≡ last_literal wide next (of_word word ranks) }
+fn last_literal(
+    wide: bool,
+    next: usize,
+    word: u64,
+    ranks: [u8; MOST_OUTPUTS],
+) -> Result<Constraint, Fault>
+    ensures { literals_told result ≡ last_literal wide next (of_word word ranks) }
 {
     let made = constraint_of(word, ranks);
     let low = both(wide, !names_high(made));
     let bare = next <= MOST_READS;
     if low {
-        return refused_literals(NO_HIGH_READ);
+        return Err(Fault::NoHighRead);
     }
     if bare {
-        return refused_literals(NO_OUTPUT);
+        return Err(Fault::NoOutput);
     }
-    Literals {
-        taken: Taken::Good,
-        made,
-    }
+    Ok(made)
 }
 
 // The literals of a body, one loop for both forms.
-fn literals_in(body: &[u8], wide: bool, r: usize, n: usize) -> Literals
-    ensures { result ≡ literals_of wide (min r most_reads) (min n most_outputs) body.now }
+fn literals_in(body: &[u8], wide: bool, r: usize, n: usize) -> Result<Constraint, Fault>
+    ensures { literals_told result ≡ literals_of wide (min r most_reads) (min n most_outputs) body.now }
 {
     let reads = least(r, MOST_READS);
     let outputs = least(n, MOST_OUTPUTS);
@@ -218,15 +203,15 @@ fn literals_in(body: &[u8], wide: bool, r: usize, n: usize) -> Literals
     while i < body.len() {
         let l = said_at(body, i, wide);
         if !is_literal(l, reads, outputs) {
-            return refused_literals(BAD_LITERAL);
+            return Err(Fault::BadLiteral);
         }
         let place = place_of(l);
         if place < next {
-            return refused_literals(NOT_RISING);
+            return Err(Fault::NotRising);
         }
         word = with_literal(word, l.negated, place);
         next = place + 1;
-        i = i + size;
+        i += size;
         if l.out {
             let number = l.number;
             ranks[number] = l.rank;
@@ -237,8 +222,8 @@ fn literals_in(body: &[u8], wide: bool, r: usize, n: usize) -> Literals
 
 // The constraint of a body of literals, wide or not, for a set of r read points and n outputs; of MOST_READS and MOST_OUTPUTS where these are more.
 // Each form has its own call, so that the compiler makes a loop for each.
-pub fn literals_of(body: &[u8], wide: bool, r: usize, n: usize) -> Literals
-    ensures { result ≡ literals_of wide (min r most_reads) (min n most_outputs) body.now }
+pub fn literals_of(body: &[u8], wide: bool, r: usize, n: usize) -> Result<Constraint, Fault>
+    ensures { literals_told result ≡ literals_of wide (min r most_reads) (min n most_outputs) body.now }
 {
     if wide {
         return literals_in(body, true, r, n);

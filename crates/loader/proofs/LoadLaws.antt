@@ -12,16 +12,15 @@ use borrow.Author.Tests.{lt-ltb, ne_eqb}
 use Rattle.words.specs.Loop.{every}
 use Rattle.scan.specs.declared.set.Kind.{Kind}
 use Rattle.scan.specs.declared.set.Kind.TheVariants.{Sensor, PastOutput, PastSensor}
-use Rattle.shape.specs.declared.names.Spelled.{Spelled}
 use Rattle.scan.specs.Set.{zero_name, zero_read}
 use Rattle.shape.specs.Spelling.{spelling}
 use Rattle.scan.specs.Shape.{count_tests}
-use Rattle.header.specs.declared.header.Header.TheVariants.{Refused as Stopped, Field}
-use Rattle.header.specs.Header.{header_of, body_of}
-use Rattle.header.specs.declared.numbers.Taken.TheVariants.{Refused as Denied, Good}
-use Rattle.loader.specs.declared.point.KindRead.TheVariants.{Bad, Known}
-use Rattle.loader.specs.declared.point.NameField.{NameField}
-use Rattle.loader.specs.Load.{refusal, going_on, field_by, counts_told, counts_made, of_counts, counts_at, name_told, name_field, kind_if, kind_of, read_told, read_field}
+use Rattle.header.specs.Header.{Refused as Stopped, Field, header_of, body_of}
+use Rattle.header.specs.Fault.{Taken, Refused as Denied, Good}
+use Rattle.std.specs.Prelude.{Result, Ok, Err, None, Some}
+use Rattle.scan.specs.declared.set.ReadPoint.{ReadPoint}
+use Rattle.loader.specs.way.Load.{if_taken, name_given, read_given}
+use Rattle.loader.specs.Load.{NameField, refusal, going_on, field_by, counts_told, counts_made, of_counts, counts_at, name_told, name_field, kind_if, kind_of, read_told, read_field}
 
 -- ---- parts of a slice
 
@@ -69,19 +68,29 @@ module _ (s : List ℕ) where
 
 -- ---- a name, by what its bytes spell
 
-module _ (used : List ℕ → Bool) (bytes : List ℕ) (got : Spelled) (e : got ≡ spelling bytes) where
-  spelled : name_field used bytes ≡ name_told used got
+module _ (used : List ℕ → Bool) (bytes : List ℕ) where
+  pub name_bad : spelling bytes ≡ None → name_field used bytes ≡ record { taken = Denied 7; name = zero_name }
   unfolding name_field
-  spelled = ap (name_told used) (sym e)
+  name_bad e = ap (name_told used) e
 
-  pub name_bad : got.good ≡ false → name_field used bytes ≡ record { taken = Denied 7; name = zero_name }
-  name_bad g = spelled ∙ rw g
+  module _ (name : List ℕ) (e : spelling bytes ≡ Some name) where
+    pub name_used_law : used name ≡ true → name_field used bytes ≡ record { taken = Denied 8; name = zero_name }
+    unfolding name_field
+    name_used_law u = ap (name_told used) e ∙ rw u
 
-  pub name_used_law : got.good ≡ true → used got.name ≡ true → name_field used bytes ≡ record { taken = Denied 8; name = zero_name }
-  name_used_law g u = spelled ∙ rw (g, u)
+    pub name_good : used name ≡ false → name_field used bytes ≡ record { taken = Good; name = name }
+    unfolding name_field
+    name_good u = ap (name_told used) e ∙ rw u
 
-  pub name_good : got.good ≡ true → used got.name ≡ false → name_field used bytes ≡ record { taken = Good; name = got.name }
-  name_good g u = spelled ∙ rw (g, u)
+-- ---- what is given, made into something else
+
+abbrev pub mapped : {A B : Type 0} → (A → B) → Result A ℕ → Result B ℕ
+mapped f (Ok x) = Ok (f x)
+mapped f (Err number) = Err number
+
+taken_mapped : {A B : Type 0} (f : A → B) (t : Taken) (x : A) → if_taken t (f x) ≡ mapped f (if_taken t x)
+taken_mapped f (Denied number) x = refl
+taken_mapped f Good x = refl
 
 -- ---- a read point
 
@@ -103,17 +112,25 @@ module _ (n : ℕ) (sensor : ℕ → Bool) (i index : ℕ) where
       ap (λ (x : ℕ). kind_of n sensor i x index) k ∙ kind_2
       ∙ ap₂ (λ (x y : Bool). kind_if (x && y) (PastSensor index)) (lt-ltb index i l) e
 
-  pub kind_other : (kind : ℕ) → (kind ≡ 0 → ⊥) → (kind ≡ 1 → ⊥) → (kind ≡ 2 → ⊥) → kind_of n sensor i kind index ≡ Bad
+  pub kind_other : (kind : ℕ) → (kind ≡ 0 → ⊥) → (kind ≡ 1 → ⊥) → (kind ≡ 2 → ⊥) → kind_of n sensor i kind index ≡ None
   unfolding kind_of
   kind_other kind a b c = simp (ne_eqb _ _ a, ne_eqb _ _ b, ne_eqb _ _ c)
 
 -- its field, by its kind and its name
 module _ (n : ℕ) (sensor : ℕ → Bool) (used : List ℕ → Bool) (i : ℕ) (body : List ℕ) where
-  pub read_bad : kind_of n sensor i (get_or body 0 0) (get_or body 1 0) ≡ Bad → read_field n sensor used i body ≡ record { taken = Denied 6; read = zero_read }
+  pub read_bad : kind_of n sensor i (get_or body 0 0) (get_or body 1 0) ≡ None → read_field n sensor used i body ≡ record { taken = Denied 6; read = zero_read }
   unfolding read_field
   read_bad k = ap (read_told (name_field used (drop 2 body))) k
 
-  pub read_known : (kind : Kind) (f : NameField) → kind_of n sensor i (get_or body 0 0) (get_or body 1 0) ≡ Known kind → f ≡ name_field used (drop 2 body)
+  pub read_known : (kind : Kind) (f : NameField) → kind_of n sensor i (get_or body 0 0) (get_or body 1 0) ≡ Some kind → f ≡ name_field used (drop 2 body)
       → read_field n sensor used i body ≡ record { taken = f.taken; read = record { kind = kind; name = f.name } }
   unfolding read_field
   read_known kind f k e = ap (read_told (name_field used (drop 2 body))) k ∙ ap (λ (g : NameField). record { taken = g.taken; read = record { kind = kind; name = g.name } }) (sym e)
+
+  -- by the name that the bytes behind the kind give
+  pub read_named : (kind : Kind) (x : Result (List ℕ) ℕ) → kind_of n sensor i (get_or body 0 0) (get_or body 1 0) ≡ Some kind → x ≡ name_given (name_field used (drop 2 body))
+      → mapped (λ (name : List ℕ). record { kind = kind; name = name }) x ≡ read_given (read_field n sensor used i body)
+  read_named kind x k e =
+      let f = name_field used (drop 2 body) in
+      let point : List ℕ → ReadPoint = λ name. record { kind = kind; name = name } in
+      ap (mapped point) e ∙ sym (taken_mapped point f.taken f.name) ∙ sym (ap read_given (read_known kind f k refl))

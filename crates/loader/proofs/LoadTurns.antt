@@ -14,17 +14,14 @@ use Rattle.scan.specs.declared.set.Set.{Set}
 use Rattle.scan.specs.Set.{most_reads, most_outputs, most_constraints}
 use Rattle.scan.specs.Shape.{count_tests}
 use Rattle.scan.proofs.ShapeLaws.{counts_told_law}
-use Rattle.header.specs.declared.header.Header.{Header}
-use Rattle.header.specs.declared.header.Header.TheVariants.{Refused as Stopped, Field}
-use Rattle.header.specs.Header.{header_of, body_of}
-use Rattle.header.specs.declared.numbers.Taken.{Taken}
-use Rattle.literal.specs.declared.literal.Literals.{Literals}
+use Rattle.std.specs.Prelude.{Result, Ok, Err}
+use Rattle.header.specs.declared.numbers.Refusal.{Refusal}
+use Rattle.header.specs.Fault.{number, Taken}
+use Rattle.header.specs.Header.{Header, Refused as Stopped, Field, header_of, body_of}
+use Rattle.literal.specs.Literal.{Literals, literals_of}
 use Rattle.header.specs.Tag.{is_wide}
-use Rattle.literal.specs.Literal.{literals_of}
-use Rattle.loader.specs.declared.loader.Progress.{Progress}
-use Rattle.loader.specs.declared.loader.Progress.TheVariants.{At, Refused}
-use Rattle.loader.specs.Load.{Loading, refusal, going_on, and_then, field_done, field_by, of_counts, good_if, counts_told, counts_made, counts_at, read_at, reads_from, output_at, outputs_from, with_constraint, constraint_given, constraint_at, constraints_given, constraints_from}
-use Rattle.loader.specs.way.Load.{reached, end_place}
+use Rattle.loader.specs.Load.{At, Refused, Loading, refusal, going_on, and_then, field_done, field_by, of_counts, good_if, counts_told, counts_made, counts_at, read_at, reads_from, output_at, outputs_from, with_constraint, constraint_given, constraint_at, constraints_given, constraints_from}
+use Rattle.loader.specs.way.Load.{reached, reached_by, end_place}
 use Rattle.loader.proofs.LoadLaws.{body_at}
 
 never : (number at p : ℕ) → Refused number at ≡ At p → ⊥
@@ -32,14 +29,14 @@ never number at p e = let z : ◌≡◌ {A = ℕ} 0 1 = cc in omega arith
 
 -- ---- one part of a load after another: the first has come so far, with a set where it goes on
 
-module _ (whole : Loading) (next : ℕ → Set → Loading) (p : Progress) (set : Set) (e : reached p set ≡ whole) where
+module _ {A : Type 0} (whole : Loading) (next : ℕ → Set → Loading) (made : A → Set) (x : Result (A × ℕ) Refusal) (e : reached_by x made ≡ whole) where
   -- a refused load stays as it is
-  pub stays : (number at : ℕ) → p ≡ Refused number at → refusal number at ≡ and_then whole next
-  stays number at q = sym (ap (λ (l : Loading). and_then l next) (sym e ∙ ap (λ (x : Progress). reached x set) q))
+  pub stays : (r : Refusal) → x ≡ Err r → and_then whole next ≡ refusal (number r.fault) r.offset
+  stays r q = ap (λ (l : Loading). and_then l next) (sym e ∙ ap (λ (y : Result (A × ℕ) Refusal). reached_by y made) q)
 
   -- another goes on from its place
-  pub goes : (at : ℕ) → p ≡ At at → next at set ≡ and_then whole next
-  goes at q = sym (ap (λ (l : Loading). and_then l next) (sym e ∙ ap (λ (x : Progress). reached x set) q))
+  pub goes : (y : A × ℕ) → x ≡ Ok y → and_then whole next ≡ next y.1 (made y.0)
+  goes y q = ap (λ (l : Loading). and_then l next) (sym e ∙ ap (λ (y : Result (A × ℕ) Refusal). reached_by y made) q)
 
 -- ---- a row of fields: one loads field i at a place, all loads `left` fields from field i on
 
@@ -61,17 +58,17 @@ module _ (one : ℕ → Set → ℕ → Loading) (all : ℕ → ℕ → ℕ → 
   row_end h = let e : count - i ≡ 0 = omega arith in sym (inv ∙ ap (λ (k : ℕ). all k i at set) e ∙ row.none i at set)
 
   -- the next field has come so far, with a set where it goes on
-  module _ (h : i < count) (p : Progress) (after : Set) (e : one at set i ≡ reached p after) where
-    next_field : whole ≡ and_then (reached p after) (all (count - (i + 1)) (i + 1))
+  module _ {A : Type 0} (h : i < count) (made : A → Set) (x : Result (A × ℕ) Refusal) (e : one at set i ≡ reached_by x made) where
+    next_field : whole ≡ and_then (reached_by x made) (all (count - (i + 1)) (i + 1))
     next_field =
         let k : count - i ≡ suc (count - (i + 1)) = omega arith in
         inv ∙ ap (λ (k : ℕ). all k i at set) k ∙ row.more (count - (i + 1)) i at set ∙ ap (λ (l : Loading). and_then l (all (count - (i + 1)) (i + 1))) e
 
-    pub row_stays : (number place : ℕ) (x : Set) → p ≡ Refused number place → reached p x ≡ whole
-    row_stays number place x q = ap (λ (y : Progress). reached y x) q ∙ sym (next_field ∙ ap (λ (y : Progress). and_then (reached y after) (all (count - (i + 1)) (i + 1))) q)
+    pub row_stays : (r : Refusal) → x ≡ Err r → refusal (number r.fault) r.offset ≡ whole
+    row_stays r q = sym (next_field ∙ ap (λ (y : Result (A × ℕ) Refusal). and_then (reached_by y made) (all (count - (i + 1)) (i + 1))) q)
 
-    pub row_goes : (place : ℕ) → p ≡ At place → whole ≡ all (count - (i + 1)) (i + 1) place after
-    row_goes place q = next_field ∙ ap (λ (y : Progress). and_then (reached y after) (all (count - (i + 1)) (i + 1))) q
+    pub row_goes : (y : A × ℕ) → x ≡ Ok y → whole ≡ all (count - (i + 1)) (i + 1) y.1 (made y.0)
+    row_goes y q = next_field ∙ ap (λ (y : Result (A × ℕ) Refusal). and_then (reached_by y made) (all (count - (i + 1)) (i + 1))) q
 
 -- ---- constraints: a loop over them is at a place, with a set so far
 

@@ -18,29 +18,38 @@ use Rattle.scan.specs.Shape.{is_sensor}
 use Rattle.shape.specs.way.Names.{name_used, ReadNames, OutputNames}
 use Rattle.shape.proofs.NamesWayLaws.{read_stored, output_stored, read_zeros, output_zeros}
 use Rattle.shape.proofs.ShapeWayLaws.{used_names}
-use Rattle.header.specs.declared.header.Header.{Header}
-use Rattle.header.specs.declared.header.Header.TheVariants.{Refused as Stopped, Field}
-use Rattle.header.specs.Header.{header_of, body_of}
-use Rattle.header.specs.declared.numbers.Taken.{Taken}
-use Rattle.header.specs.declared.numbers.Taken.TheVariants.{Refused as Denied, Good}
-use Rattle.loader.specs.declared.step.ReadStep.{ReadStep}
-use Rattle.loader.specs.declared.step.NameStep.{NameStep}
-use Rattle.loader.specs.declared.rest.RestStep.{RestStep}
-use Rattle.loader.specs.declared.loader.Progress.{Progress}
-use Rattle.loader.specs.declared.loader.Progress.TheVariants.{At}
-use Rattle.loader.specs.Load.{Loading, field_done, field_by, name_field, read_field, sensor_at, read_of, with_read, read_at, output_of, with_output, output_at, rest_word, rest_good, rest_at, going_on}
-use Rattle.loader.specs.way.Load.{not_past, Pasts, place_behind, read_step, name_step, rest_step, rest_place, reached, points_set, rested_set}
+use Rattle.std.specs.Prelude.{Result, Ok, Err}
+use Rattle.header.specs.declared.numbers.Refusal.{Refusal}
+use Rattle.header.specs.declared.reader.FrontField.{FrontField}
+use Rattle.header.specs.Fault.{number, Taken, Refused as Denied, Good}
+use Rattle.header.specs.Header.{Header, Refused as Stopped, Field, header_of, front_of, body_of}
+use Rattle.header.specs.way.Header.{front_told}
+use Rattle.header.proofs.HeaderLaws.{front_place, front_there, stopped_place, stopped_there}
+use Rattle.loader.specs.Load.{field_done, field_by, name_field, read_field, sensor_at, read_of, with_read, read_at, output_of, with_output, output_at, rest_word, rest_good, rest_at, going_on}
+use Rattle.loader.specs.way.Load.{Step, numbered, not_past, Pasts, if_taken, name_given, read_given, rest_given, step_done, step_by, rest_place, brought, reached_by, points_set, rested_set}
 use Rattle.loader.proofs.LoadLaws.{body_at}
 
 -- ---- steps
 
--- what code gets from a part of the slice at the place that it was told is what the definitions get from the field's body
-pub field_step : {F X : Type 0} (told : F → Taken) (made : Progress → F → X) (s : List ℕ) (at place len : ℕ) (got : List ℕ → F) (f : F) (p : Progress)
-    → place ≡ at → f ≡ got (take (place + 3 + len - (place + 3)) (drop (place + 3) s)) → p ≡ place_behind place (place + 3 + len) (told f)
-    → made p f ≡ made (place_behind at (at + 3 + len) (told (got (body_of (drop at s) len)))) (got (body_of (drop at s) len))
-field_step {F} told made s at place len got f p z e d =
-    let b : f ≡ got (body_of (drop at s) len) = e ∙ ap got (body_at s place len) ∙ ap (λ (x : ℕ). got (body_of (drop x s) len)) z in
-    ap₂ made (d ∙ ap₂ (λ (x : ℕ) (y : F). place_behind x (x + 3 + len) (told y)) z b) b
+-- by the field that code found at its place, or the refusal there
+module _ {A : Type 0} (s : List ℕ) (at due : ℕ) (got : List ℕ → Result A ℕ) where
+  pub step_refused : (r : Refusal) → front_told (Err r) ≡ front_of s at due 0 → Err (number r.fault, r.offset) ≡ step_by s at got (header_of (drop at s) due 0)
+  step_refused r e =
+      ap (λ (x : ℕ). Err (number r.fault, x)) (stopped_place s at due 0 r e)
+      ∙ ap (step_by s at got) (sym (stopped_there s at due 0 r e))
+
+  -- what code gets from the field's body is what the definitions get
+  pub step_body : (f : FrontField) → front_told (Ok f) ≡ front_of s at due 0
+      → (x : Result A ℕ) → x ≡ got (body_of (drop f.at s) f.len) → step_done f.at (f.at + 3 + f.len) x ≡ step_by s at got (header_of (drop at s) due 0)
+  step_body f e x g =
+      let z = front_place s at due 0 f e in
+      ap₂ (λ (k : ℕ) (y : Result A ℕ). step_done k (k + 3 + f.len) y) z (g ∙ ap (λ (k : ℕ). got (body_of (drop k s) f.len)) z)
+      ∙ ap (step_by s at got) (sym (front_there s at due 0 f e))
+
+  -- the body as a part of the slice
+  pub step_taken : (f : FrontField) → front_told (Ok f) ≡ front_of s at due 0
+      → (x : Result A ℕ) → x ≡ got (take (f.at + 3 + f.len - (f.at + 3)) (drop (f.at + 3) s)) → step_done f.at (f.at + 3 + f.len) x ≡ step_by s at got (header_of (drop at s) due 0)
+  step_taken f e x g = step_body f e x (g ∙ ap got (body_at s f.at f.len))
 
 -- ---- points so far: the read points beside their names and the list of pasts
 
@@ -103,61 +112,61 @@ no_outputs : (reads : List ReadPoint) (i : ℕ) (a b : List OutputPoint) (name :
 unfolding is_used first_output first first_from
 no_outputs reads i a b name = refl
 
-by_body : (at len : ℕ) (t : Taken) (x : Set) → reached (place_behind at (at + 3 + len) t) x ≡ field_done at len t x
-by_body at len (Denied number) x = refl
-by_body at len Good x = refl
+by_body : {A : Type 0} (at len : ℕ) (t : Taken) (x : A) (made : A → Set) → brought (step_done at (at + 3 + len) (if_taken t x)) made ≡ field_done at len t (made x)
+by_body at len (Denied number) x made = refl
+by_body at len Good x made = refl
 
 module _ (s : List ℕ) (at : ℕ) (base : Set) where
-  pub read_stepped : (names own : List (List ℕ)) (pasts : List Bool) (i : ℕ) (f : ReadStep) → ReadNames names base.reads → Pasts pasts base.reads
+  pub read_stepped : (names own : List (List ℕ)) (pasts : List Bool) (i : ℕ) (x : Result (ReadPoint × ℕ) Refusal) → ReadNames names base.reads → Pasts pasts base.reads
       → own ≡ replicate most_outputs zero_name → i ≤ most_reads
-      → f ≡ read_step s at (read_field base.n (not_past pasts) (name_used names (min i most_reads) own 0) i) (header_of (drop at s) 2 0)
-      → read_at s at base i ≡ reached f.progress (with_read base i f.read)
+      → numbered x ≡ step_by s at (λ body. read_given (read_field base.n (not_past pasts) (name_used names (min i most_reads) own 0) i body)) (header_of (drop at s) 2 0)
+      → read_at s at base i ≡ reached_by x (with_read base i)
   unfolding read_at read_of zero_set
-  read_stepped names own pasts i f named past none h e =
+  read_stepped names own pasts i x named past none h e =
       let used : name_used names (min i most_reads) own 0 ≡ is_used base.reads i base.outputs 0 =
       fun_ext (λ (name : List ℕ). ap₂ (λ (x : ℕ) (y : List (List ℕ)). name_used names x y 0 name) (min-eq_left h) none
       ∙ used_names names base.reads named (replicate most_outputs zero_name) zero_set.outputs output_zeros i 0 name h (lit≤ tt)
       ∙ no_outputs base.reads i zero_set.outputs base.outputs name) in
-      let got : f ≡ read_step s at (read_of base i) (header_of (drop at s) 2 0) =
-      e ∙ ap₂ (λ (x : ℕ → Bool) (y : List ℕ → Bool). read_step s at (read_field base.n x y i) (header_of (drop at s) 2 0)) (fun_ext (sensors_known pasts base.reads past)) used in
-      sym (ap (λ (g : ReadStep). reached g.progress (with_read base i g.read)) got ∙ go (header_of (drop at s) 2 0))
+      let got : numbered x ≡ step_by s at (λ body. read_given (read_of base i body)) (header_of (drop at s) 2 0) =
+      e ∙ ap₂ (λ (x : ℕ → Bool) (y : List ℕ → Bool). step_by s at (λ body. read_given (read_field base.n x y i body)) (header_of (drop at s) 2 0)) (fun_ext (sensors_known pasts base.reads past)) used in
+      sym (ap (λ (g : Step ReadPoint). brought g (with_read base i)) got ∙ go (header_of (drop at s) 2 0))
     where
-      go : (h : Header) → reached (read_step s at (read_of base i) h).progress (with_read base i (read_step s at (read_of base i) h).read)
+      go : (h : Header) → brought (step_by s at (λ body. read_given (read_of base i body)) h) (with_read base i)
           ≡ field_by s at (λ body. (read_of base i body).taken) (λ body. with_read base i (read_of base i body).read) h
       go (Stopped number) = refl
-      go (Field tag len) = by_body at len (read_of base i (body_of (drop at s) len)).taken (with_read base i (read_of base i (body_of (drop at s) len)).read)
+      go (Field tag len) = let f = read_of base i (body_of (drop at s) len) in by_body at len f.taken f.read (with_read base i)
 
-  pub output_stepped : (names own : List (List ℕ)) (j : ℕ) (f : NameStep) → ReadNames names base.reads → OutputNames own base.outputs → base.r ≤ most_reads → j ≤ most_outputs
-      → f ≡ name_step s at (name_field (name_used names (min base.r most_reads) own (min j most_outputs))) (header_of (drop at s) 3 0)
-      → output_at s at base j ≡ reached f.progress (with_output base j f.name)
+  pub output_stepped : (names own : List (List ℕ)) (j : ℕ) (x : Result (List ℕ × ℕ) Refusal) → ReadNames names base.reads → OutputNames own base.outputs → base.r ≤ most_reads → j ≤ most_outputs
+      → numbered x ≡ step_by s at (λ body. name_given (name_field (name_used names (min base.r most_reads) own (min j most_outputs)) body)) (header_of (drop at s) 3 0)
+      → output_at s at base j ≡ reached_by x (with_output base j)
   unfolding output_at output_of
-  output_stepped names own j f named owned hr h e =
+  output_stepped names own j x named owned hr h e =
       let used : name_used names (min base.r most_reads) own (min j most_outputs) ≡ is_used base.reads base.r base.outputs j =
       fun_ext (λ (name : List ℕ). ap₂ (λ (x y : ℕ). name_used names x own y name) (min-eq_left hr) (min-eq_left h)
       ∙ used_names names base.reads named own base.outputs owned base.r j name hr h) in
-      let got : f ≡ name_step s at (output_of base j) (header_of (drop at s) 3 0) =
-      e ∙ ap (λ (y : List ℕ → Bool). name_step s at (name_field y) (header_of (drop at s) 3 0)) used in
-      sym (ap (λ (g : NameStep). reached g.progress (with_output base j g.name)) got ∙ go (header_of (drop at s) 3 0))
+      let got : numbered x ≡ step_by s at (λ body. name_given (output_of base j body)) (header_of (drop at s) 3 0) =
+      e ∙ ap (λ (y : List ℕ → Bool). step_by s at (λ body. name_given (name_field y body)) (header_of (drop at s) 3 0)) used in
+      sym (ap (λ (g : Step (List ℕ)). brought g (with_output base j)) got ∙ go (header_of (drop at s) 3 0))
     where
-      go : (h : Header) → reached (name_step s at (output_of base j) h).progress (with_output base j (name_step s at (output_of base j) h).name)
+      go : (h : Header) → brought (step_by s at (λ body. name_given (output_of base j body)) h) (with_output base j)
           ≡ field_by s at (λ body. (output_of base j body).taken) (λ body. with_output base j (output_of base j body).name) h
       go (Stopped number) = refl
-      go (Field tag len) = by_body at len (output_of base j (body_of (drop at s) len)).taken (with_output base j (output_of base j (body_of (drop at s) len)).name)
+      go (Field tag len) = let f = output_of base j (body_of (drop at s) len) in by_body at len f.taken f.name (with_output base j)
 
 -- the rest word's field, or none, brings a load as far as its step does
-pub rest_stepped : (s : List ℕ) (at r n : ℕ) (reads : List ReadPoint) (outputs : List OutputPoint) (f : RestStep) → f ≡ rest_place s at n
-    → reached f.progress (rested_set r n f.rest reads outputs) ≡ rest_at s at (points_set r n reads outputs)
+pub rest_stepped : (s : List ℕ) (at r n : ℕ) (reads : List ReadPoint) (outputs : List OutputPoint) (x : Result (ℕ × ℕ) Refusal) → numbered x ≡ rest_place s at n
+    → reached_by x (λ rest. rested_set r n rest reads outputs) ≡ rest_at s at (points_set r n reads outputs)
 unfolding rest_place rest_at zero_set
-rest_stepped s at r n reads outputs f e = ap come e ∙ go (eqb (get_or (drop at s) 0 0) 6)
+rest_stepped s at r n reads outputs x e = ap (λ (g : Step ℕ). brought g made) e ∙ go (eqb (get_or (drop at s) 0 0) 6)
   where
-    come : RestStep → Loading
-    come g = reached g.progress (rested_set r n g.rest reads outputs)
+    made : ℕ → Set
+    made rest = rested_set r n rest reads outputs
 
-    given : (h : Header) → come (rest_step s at n h) ≡ field_by s at (λ body. rest_good (rest_word body) n) (λ body. rested_set r n (rest_word body) reads outputs) h
-    given (Stopped number) = refl
-    given (Field tag len) = by_body at len (rest_good (rest_word (body_of (drop at s) len)) n) (rested_set r n (rest_word (body_of (drop at s) len)) reads outputs)
+    step : (h : Header) → brought (step_by s at (rest_given n) h) made ≡ field_by s at (λ body. rest_good (rest_word body) n) (λ body. made (rest_word body)) h
+    step (Stopped number) = refl
+    step (Field tag len) = let word = rest_word (body_of (drop at s) len) in by_body at len (rest_good word n) word made
 
-    go : (b : Bool) → come (cond b (rest_step s at n (header_of (drop at s) 6 0)) (record { progress = At at; rest = 0 }))
-        ≡ cond b (field_by s at (λ body. rest_good (rest_word body) n) (λ body. rested_set r n (rest_word body) reads outputs) (header_of (drop at s) 6 0)) (going_on at (points_set r n reads outputs))
-    go true = given (header_of (drop at s) 6 0)
+    go : (b : Bool) → brought (cond b (step_by s at (rest_given n) (header_of (drop at s) 6 0)) (Ok (0, at))) made
+        ≡ cond b (field_by s at (λ body. rest_good (rest_word body) n) (λ body. made (rest_word body)) (header_of (drop at s) 6 0)) (going_on at (points_set r n reads outputs))
+    go true = step (header_of (drop at s) 6 0)
     go false = refl

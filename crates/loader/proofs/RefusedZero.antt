@@ -15,18 +15,12 @@ use Rattle.scan.specs.declared.set.Constraint.{Constraint}
 use Rattle.scan.specs.declared.set.Set.{Set}
 use Rattle.scan.specs.Set.{most_constraints, zero_set, with_rest}
 use Rattle.scan.specs.Shape.{count_tests}
-use Rattle.header.specs.declared.header.Header.{Header}
-use Rattle.header.specs.declared.header.Header.TheVariants.{Refused as Stopped, Field}
-use Rattle.header.specs.declared.numbers.Taken.{Taken}
-use Rattle.header.specs.declared.numbers.Taken.TheVariants.{Refused as Denied, Good}
-use Rattle.loader.specs.declared.loader.Progress.{Progress}
-use Rattle.loader.specs.declared.loader.Progress.TheVariants.{At, Refused}
+use Rattle.header.specs.Header.{Header, Refused as Stopped, Field, header_of, body_of}
+use Rattle.header.specs.Fault.{Taken, Refused as Denied, Good}
+use Rattle.loader.specs.Load.{Progress, At, Refused, Loading, refusal, going_on, then_from, and_then, field_done, field_by, good_if, counts_told, counts_made, counts_at, read_of, with_read, read_at, reads_from, output_of, with_output, output_at, outputs_from, rest_word, rest_good, rest_at, after_rest, after_outputs, with_constraint, constraint_at, end_at, constraints_given, constraints_from, after_counts, after_reads, answer_of, load_from, load_of}
 use Rattle.loader.specs.declared.loader.LoadAnswer.TheVariants.{Loaded, Refused as WasRefused}
-use Rattle.header.specs.Header.{header_of, body_of}
 use Rattle.header.specs.Tag.{is_wide}
 use Rattle.literal.specs.Literal.{literals_of}
-use Rattle.loader.specs.Load.{Loading, refusal, going_on, then_from, and_then, field_done, field_by, good_if, counts_told, counts_made, counts_at, read_of, with_read, read_at, reads_from}
-use Rattle.loader.specs.Load.{output_of, with_output, output_at, outputs_from, rest_word, rest_good, rest_at, after_rest, after_outputs, with_constraint, constraint_at, end_at, constraints_given, constraints_from, after_counts, after_reads, answer_of, load_from, load_of}
 
 -- a refusal has the zero set, and a set on its way has an output
 abbrev Shown : Progress → Set → Type 0

@@ -2,37 +2,31 @@
 -- what is left of the file s at the place `at`, which is the offset that a refusal gives. The tests of a field come in the order of their
 -- numbers: 1 to 4 in header/specs/Header, 9 to 11 and 59 in literal/specs/Literal, the others here.
 -- Assumes nothing.
-use Rattle.std.specs.Prelude.{ℕ, zero, suc, ◌+◌, ◌*◌, ◌^◌, Bool, true, false, cond, ◌&&◌, List, ltb, eqb, length, get_or, drop, set as store}
+use Rattle.std.specs.Prelude.{ℕ, zero, suc, ◌+◌, ◌*◌, ◌^◌, Bool, true, false, cond, ◌&&◌, List, ltb, eqb, length, get_or, drop, set as store, Option, None, Some}
 use Rattle.words.specs.Loop.{every}
 use Rattle.scan.specs.declared.set.Kind.{Kind}
 use Rattle.scan.specs.declared.set.Kind.TheVariants.{Sensor, PastOutput, PastSensor}
 use Rattle.scan.specs.declared.set.ReadPoint.{ReadPoint}
 use Rattle.scan.specs.declared.set.Constraint.{Constraint}
 use Rattle.scan.specs.declared.set.Set.{Set}
-use Rattle.shape.specs.declared.names.Spelled.{Spelled}
 use Rattle.scan.specs.Set.{most_constraints, zero_name, zero_read, zero_set, with_counts, with_reads, with_outputs, with_constraints, with_rest, read_point}
 use Rattle.shape.specs.Spelling.{spelling}
 use Rattle.scan.specs.Names.{is_used}
 use Rattle.scan.specs.Shape.{count_tests, is_sensor}
-use Rattle.header.specs.declared.header.Header.{Header}
-use Rattle.header.specs.declared.header.Header.TheVariants.{Refused as Stopped, Field}
-use Rattle.header.specs.declared.numbers.Taken.{Taken}
-use Rattle.header.specs.declared.numbers.Taken.TheVariants.{Refused as Denied, Good}
-use Rattle.literal.specs.declared.literal.Literals.{Literals}
-use Rattle.loader.specs.declared.point.KindRead.{KindRead}
-use Rattle.loader.specs.declared.point.KindRead.TheVariants.{Bad, Known}
-use Rattle.loader.specs.declared.point.NameField.{NameField}
-use Rattle.loader.specs.declared.point.ReadField.{ReadField}
-use Rattle.loader.specs.declared.loader.Progress.{Progress}
-use Rattle.loader.specs.declared.loader.Progress.TheVariants.{At, Refused}
+use Rattle.header.specs.Header.{Header, Refused as Stopped, Field, header_of, body_of}
+use Rattle.header.specs.Fault.{Taken, Refused as Denied, Good}
+use Rattle.literal.specs.Literal.{Literals, literals_of}
 use Rattle.loader.specs.declared.loader.LoadAnswer.{LoadAnswer}
 use Rattle.loader.specs.declared.loader.LoadAnswer.TheVariants.{Loaded as WasLoaded, Refused as WasRefused}
 use Rattle.loader.specs.declared.loader.Loaded.{Loaded}
 use Rattle.header.specs.Tag.{is_wide}
-use Rattle.header.specs.Header.{header_of, body_of}
-use Rattle.literal.specs.Literal.{literals_of}
 
 -- ---- how far a load has come
+
+-- the place of the next field; or a refusal's number and the offset of the field's first byte
+pub data Progress : Type 0 where
+  At : ℕ → Progress
+  Refused : ℕ → ℕ → Progress
 
 -- the place of the next field, or the refusal; and the set so far
 pub record Loading : Type 0 where
@@ -97,12 +91,15 @@ counts_at s = field_at s 0 1 counts_told counts_made
 
 -- ---- names of points
 
+-- what bytes give: whether they are taken, and the name
+pub record NameField : Type 0 where
+  pub taken : Taken
+  pub name : List ℕ
+
 -- 7, then 8, or the name; `used name` says that a point before has the name
-abbrev pub name_told : (List ℕ → Bool) → Spelled → NameField
-name_told used got =
-    cond got.good
-    (cond (used got.name) (record { taken = Denied 8; name = zero_name }) (record { taken = Good; name = got.name }))
-    (record { taken = Denied 7; name = zero_name })
+abbrev pub name_told : (List ℕ → Bool) → Option (List ℕ) → NameField
+name_told used None = record { taken = Denied 7; name = zero_name }
+name_told used (Some name) = cond (used name) (record { taken = Denied 8; name = zero_name }) (record { taken = Good; name = name })
 
 -- the name that bytes spell
 unfoldable pub name_field : (List ℕ → Bool) → List ℕ → NameField
@@ -111,23 +108,28 @@ name_field used bytes = name_told used (spelling bytes)
 -- ---- 0x02: kind, index, name
 
 -- the kind if the test passes
-abbrev pub kind_if : Bool → Kind → KindRead
-kind_if true k = Known k
-kind_if false k = Bad
+abbrev pub kind_if : Bool → Kind → Option Kind
+kind_if true k = Some k
+kind_if false k = None
 
 -- read point i of a set of n outputs: kind 0 is a sensor, index 0; kind 1 the past of an output; kind 2 the past of an earlier read point of kind 0,
 -- as `sensor k` says of read point k
-unfoldable pub kind_of : ℕ → (ℕ → Bool) → ℕ → ℕ → ℕ → KindRead
+unfoldable pub kind_of : ℕ → (ℕ → Bool) → ℕ → ℕ → ℕ → Option Kind
 kind_of n sensor i kind index =
     cond (eqb kind 0) (kind_if (eqb index 0) Sensor)
     (cond (eqb kind 1) (kind_if (ltb index n) (PastOutput index))
     (cond (eqb kind 2) (kind_if (ltb index i && sensor index) (PastSensor index))
-    Bad))
+    None))
+
+-- what a body gives: whether it is taken, and the read point
+pub record ReadField : Type 0 where
+  pub taken : Taken
+  pub read : ReadPoint
 
 -- 6, or the read point of the kind and the name
-abbrev pub read_told : NameField → KindRead → ReadField
-read_told named Bad = record { taken = Denied 6; read = zero_read }
-read_told named (Known kind) = record { taken = named.taken; read = record { kind = kind; name = named.name } }
+abbrev pub read_told : NameField → Option Kind → ReadField
+read_told named None = record { taken = Denied 6; read = zero_read }
+read_told named (Some kind) = record { taken = named.taken; read = record { kind = kind; name = named.name } }
 
 -- read point i of a body
 unfoldable pub read_field : ℕ → (ℕ → Bool) → (List ℕ → Bool) → ℕ → List ℕ → ReadField

@@ -1,72 +1,42 @@
 // The bodies of read points and outputs. The names of the points before are lent in lists of their own, and beside them which read points are pasts.
 ghost use Rattle.std.specs.Prelude.{◌≡◌, ◌≤◌, min, length};
-ghost use Rattle.scan.specs.Set.{most_reads, most_outputs, zero_name};
+ghost use Rattle.scan.specs.Set.{most_reads, most_outputs};
 ghost use Rattle.shape.specs.way.Names.{name_used};
-ghost use Rattle.header.specs.declared.numbers.Taken.TheVariants.{Refused as Denied};
 ghost use Rattle.loader.specs.Load.{name_field, kind_of, read_field};
-ghost use Rattle.loader.specs.way.Load.{not_past};
+ghost use Rattle.loader.specs.way.Load.{not_past, given, name_given, read_given};
 
-use header::{BAD_KIND, BAD_NAME_BYTE, NAME_USED, Taken};
+use header::Fault;
 use scan::{Kind, MOST_OUTPUTS, MOST_READS, NAME_PLACES, ReadPoint};
 use shape::{is_name_used, spell};
 
-#[derive(Clone, Copy)]
-pub struct NameField {
-    pub taken: Taken,
-    pub name: [u8; NAME_PLACES],
-}
-
-#[derive(Clone, Copy)]
-pub struct ReadField {
-    pub taken: Taken,
-    pub read: ReadPoint,
-}
-
-// What two bytes tell of a read point's kind.
-#[derive(Clone, Copy)]
-pub enum KindRead {
-    Bad,
-    Known(Kind),
-}
-
 // The kind of read point i of a set of n outputs, told by two bytes.
-fn kind_of(pasts: &[bool; MOST_READS], n: usize, i: usize, kind: u8, index: u8) -> KindRead
+fn kind_of(pasts: &[bool; MOST_READS], n: usize, i: usize, kind: u8, index: u8) -> Option<Kind>
     requires { i ≤ most_reads }
     ensures { result ≡ kind_of n (not_past pasts.now) i kind index }
 {
     let k = index as usize;
     if kind == 0 {
         if index == 0 {
-            return KindRead::Known(Kind::Sensor);
+            return Some(Kind::Sensor);
         }
-        return KindRead::Bad;
+        return None;
     }
     if kind == 1 {
         if k < n {
-            return KindRead::Known(Kind::PastOutput(index));
+            return Some(Kind::PastOutput(index));
         }
-        return KindRead::Bad;
+        return None;
     }
     if kind == 2 {
         if k < i {
             if pasts[k] {
-                return KindRead::Bad;
+                return None;
             }
-            return KindRead::Known(Kind::PastSensor(index));
+            return Some(Kind::PastSensor(index));
         }
-        return KindRead::Bad;
+        return None;
     }
-    KindRead::Bad
-}
-
-fn no_name(number: u8) -> NameField
-    ensures { result ≡ record { taken = Denied number; name = zero_name } }
-{
-    let name = [0u8; NAME_PLACES];
-    NameField {
-        taken: Taken::Refused(number),
-        name,
-    }
+    None
 }
 
 // The name that bytes spell, where none of the first i read points and of the first j outputs has it.
@@ -76,21 +46,14 @@ pub fn name_of<'a>(
     i: usize,
     outputs: &'a [[u8; NAME_PLACES]; MOST_OUTPUTS],
     j: usize,
-) -> NameField
-    ensures { result ≡ name_field (name_used reads.now (min i most_reads) outputs.now (min j most_outputs)) bytes.now }
+) -> Result<[u8; NAME_PLACES], Fault>
+    ensures { given result ≡ name_given (name_field (name_used reads.now (min i most_reads) outputs.now (min j most_outputs)) bytes.now) }
 {
-    let got = spell(bytes);
-    if !got.good {
-        return no_name(BAD_NAME_BYTE);
-    }
-    let name = got.name;
+    let name = spell(bytes).ok_or(Fault::BadNameByte)?;
     if is_name_used(reads, i, outputs, j, name) {
-        return no_name(NAME_USED);
+        return Err(Fault::NameUsed);
     }
-    NameField {
-        taken: Taken::Good,
-        name,
-    }
+    Ok(name)
 }
 
 // Read point i of a body.
@@ -101,29 +64,11 @@ pub fn read_field<'a>(
     reads: &'a [[u8; NAME_PLACES]; MOST_READS],
     outputs: &'a [[u8; NAME_PLACES]; MOST_OUTPUTS],
     i: usize,
-) -> ReadField
+) -> Result<ReadPoint, Fault>
     requires { (2 ≤ length body.now) × (i ≤ most_reads) }
-    ensures { result ≡ read_field n (not_past pasts.now) (name_used reads.now (min i most_reads) outputs.now 0) i body.now }
+    ensures { given result ≡ read_given (read_field n (not_past pasts.now) (name_used reads.now (min i most_reads) outputs.now 0) i body.now) }
 {
-    let known = kind_of(pasts, n, i, body[0], body[1]);
-    match known {
-        KindRead::Bad => {
-            let name = [0u8; NAME_PLACES];
-            let read = ReadPoint {
-                kind: Kind::Sensor,
-                name,
-            };
-            ReadField {
-                taken: Taken::Refused(BAD_KIND),
-                read,
-            }
-        }
-        KindRead::Known(kind) => {
-            let f = name_of(&body[2..], reads, i, outputs, 0);
-            let taken = f.taken;
-            let name = f.name;
-            let read = ReadPoint { kind, name };
-            ReadField { taken, read }
-        }
-    }
+    let kind = kind_of(pasts, n, i, body[0], body[1]).ok_or(Fault::BadKind)?;
+    let name = name_of(&body[2..], reads, i, outputs, 0)?;
+    Ok(ReadPoint { kind, name })
 }

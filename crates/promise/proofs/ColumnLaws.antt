@@ -17,10 +17,7 @@ use Rattle.scan.proofs.ShapeLaws.{counts_told_law}
 use Rattle.header.specs.Test.{test, FirstFails, NoneFails}
 use Rattle.header.proofs.HeaderLaws.{read_length, output_length}
 use Rattle.header.proofs.TestLaws.{first_once, none_first}
-use Rattle.loader.specs.declared.loader.Progress.{Progress}
-use Rattle.loader.specs.declared.loader.Progress.TheVariants.{At, Refused}
-use Rattle.loader.specs.Load.{Loading, then_from, and_then, good_if, counts_told, counts_made, counts_at, read_of, with_read, read_at, reads_from, output_of, with_output, output_at, outputs_from}
-use Rattle.loader.specs.Load.{after_counts, after_reads, after_outputs, answer_of, load_from, load_of}
+use Rattle.loader.specs.Load.{Progress, At, Refused, Loading, then_from, and_then, good_if, counts_told, counts_made, counts_at, read_of, with_read, read_at, reads_from, output_of, with_output, output_at, outputs_from, after_counts, after_reads, after_outputs, answer_of, load_from, load_of}
 use Rattle.loader.specs.Told.{load_told}
 use Rattle.promise.specs.Fields.{fields_from, in_fields}
 use Rattle.promise.specs.Column.{counts_fit, name_tests, read_tests, outputs_tests, reads_tests, counts_tests, load_tests}

@@ -11,8 +11,7 @@ use lib.ListN.{get_or, drop}
 use Rattle.header.specs.Test.{Test, FirstFails}
 use Rattle.promise.specs.Fields.{Fields, in_fields}
 use Rattle.promise.specs.Fields.Fields.{ends, cut, field}
-use Rattle.promise.specs.Column.{Given, missing, head_tests, name_tests, read_tests, in_twos, in_threes, literal_tests, body_tests, in_order}
-use Rattle.promise.specs.Column.{end_tests, constraints_tests, rest_tests, outputs_tests, reads_tests, counts_tests, load_tests}
+use Rattle.promise.specs.Column.{Given, missing, head_tests, name_tests, read_tests, in_twos, in_threes, literal_tests, body_tests, in_order, end_tests, constraints_tests, rest_tests, outputs_tests, reads_tests, counts_tests, load_tests}
 use Rattle.promise.proofs.ColumnLaws.{load_refused}
 use Rattle.loader.specs.Load.{load_of}
 use Rattle.loader.specs.Told.{load_told}

@@ -12,15 +12,12 @@ use borrow.Author.Tests.{eqb-true, eqb-false, eq-eqb, ne_eqb, ltb-true, ltb-fals
 use Rattle.words.proofs.BoolLaws.{by_test}
 use Rattle.scan.specs.declared.set.Set.{Set}
 use Rattle.scan.specs.Set.{most_reads, most_outputs, most_constraints}
-use Rattle.header.specs.declared.header.Header.TheVariants.{Field}
+use Rattle.header.specs.Header.{Field, header_of, body_length, body_of, fits_table}
 use Rattle.header.specs.Test.{Test, test, FirstFails, NoneFails}
 use Rattle.header.specs.Tag.{is_constraint, is_wide, literal_size}
-use Rattle.header.specs.Header.{header_of, body_length, body_of, fits_table}
 use Rattle.header.proofs.HeaderLaws.{found, table_bounds, field_within, constraint_length}
 use Rattle.literal.specs.Literal.{literals_of}
-use Rattle.loader.specs.declared.loader.Progress.{Progress}
-use Rattle.loader.specs.Load.{Loading, refusal, going_on, and_then}
-use Rattle.loader.specs.Load.{with_constraint, constraint_at, end_at, constraints_given, constraints_from}
+use Rattle.loader.specs.Load.{Progress, Loading, refusal, going_on, and_then, with_constraint, constraint_at, end_at, constraints_given, constraints_from}
 use Rattle.promise.specs.Fields.{Fields, field_size, fields_from}
 use Rattle.promise.specs.Column.{body_tests, end_tests, constraints_tests}
 use Rattle.promise.proofs.HeadTests.{Agrees, Tells, by_header, done_tells}

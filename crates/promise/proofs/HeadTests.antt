@@ -12,17 +12,13 @@ use borrow.Author.Tests.{eqb-true, eqb-false, leb-true, le-leb, eq-eqb}
 use Rattle.words.proofs.BoolLaws.{by_test, and_true, and_unit, and_false, and_assoc, or_true}
 use Rattle.scan.specs.declared.set.Set.{Set}
 use Rattle.scan.specs.Set.{most_constraints}
-use Rattle.header.specs.declared.header.Header.TheVariants.{Refused as Stopped, Field}
-use Rattle.header.specs.declared.numbers.Taken.{Taken}
-use Rattle.header.specs.declared.numbers.Taken.TheVariants.{Refused as Denied, Good}
+use Rattle.header.specs.Header.{Refused as Stopped, Field, header_of, body_of, body_length, is_cut, is_due, fits_table}
+use Rattle.header.specs.Fault.{Taken, Refused as Denied, Good}
 use Rattle.header.specs.Test.{Test, FirstFails, NoneFails}
 use Rattle.header.specs.Tag.{is_constraint}
-use Rattle.header.specs.Header.{header_of, body_of, body_length, is_cut, is_due, fits_table}
 use Rattle.header.proofs.TestLaws.{first_front, first_behind, none_joined}
 use Rattle.header.proofs.HeaderLaws.{raw_cut, raw_field, past_end, not_due, too_many, not_in_table, a_field}
-use Rattle.loader.specs.declared.loader.Progress.{Progress}
-use Rattle.loader.specs.declared.loader.Progress.TheVariants.{At, Refused}
-use Rattle.loader.specs.Load.{Loading, and_then, field_done, field_by, field_at}
+use Rattle.loader.specs.Load.{Progress, At, Refused, Loading, and_then, field_done, field_by, field_at}
 use Rattle.promise.specs.Fields.{Fields, fields_from}
 use Rattle.promise.specs.Fields.Fields.{ends, cut, field}
 use Rattle.promise.specs.Column.{missing, within, length_fits, head_tests}

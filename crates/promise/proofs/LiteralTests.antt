@@ -17,8 +17,7 @@ use Rattle.scan.specs.Set.{most_reads, most_outputs, zero_constraint}
 use Rattle.header.specs.Tag.{is_wide, literal_size, names_high}
 use Rattle.header.specs.Test.{Test, test}
 use Rattle.literal.specs.declared.literal.Said.{Said}
-use Rattle.literal.specs.declared.literal.Literals.{Literals}
-use Rattle.literal.specs.Literal.{is_negated, narrow, wide, narrows, wides, said_by, place, is_literal, with_literal, refused_literals, good_literals, literals_from, literals_of}
+use Rattle.literal.specs.Literal.{Literals, is_negated, narrow, wide, narrows, wides, said_by, place, is_literal, with_literal, refused_literals, good_literals, literals_from, literals_of}
 use Rattle.literal.proofs.LiteralLaws.{room, literal_fits_law, not_literal, not_rising, one_more}
 use Rattle.promise.specs.Column.{Given, in_twos, in_threes, is_output_literal, literal_fits, in_order, literal_tests, names_output, number_above15, body_tests}
 use Rattle.promise.proofs.HeadTests.{BodyTells, body_behind}

@@ -22,10 +22,8 @@ use Rattle.scan.specs.Names.{all_name_bytes, padded, is_used}
 use Rattle.scan.specs.Shape.{is_sensor}
 use Rattle.shape.proofs.SpellingLaws.{spell_name, spell_strange}
 use Rattle.header.specs.Test.{test}
-use Rattle.loader.specs.declared.point.KindRead.TheVariants.{Bad, Known}
-use Rattle.loader.specs.declared.point.NameField.{NameField}
-use Rattle.loader.specs.declared.point.ReadField.{ReadField}
-use Rattle.loader.specs.Load.{name_field, kind_of, read_field, sensor_at, read_of, output_of}
+use Rattle.std.specs.Prelude.{None, Some}
+use Rattle.loader.specs.Load.{NameField, ReadField, name_field, kind_of, read_field, sensor_at, read_of, output_of}
 use Rattle.loader.proofs.LoadLaws.{name_bad, name_used_law, name_good, read_bad, read_known}
 use Rattle.promise.specs.Column.{kind_fits, good_bytes, is_among, name_tests, read_tests}
 use Rattle.promise.proofs.HeadTests.{BodyTells, body_behind}
@@ -44,12 +42,12 @@ name_tells at used names bytes low high same =
     λ f e x. subst (λ (g : NameField). BodyTells at g.taken (name_tests at names bytes) (Named g.name bytes)) (sym e) x in
     by_test (all_name_bytes bytes)
     (λ n7.
-    let e = spell_name bytes low high n7 in
+    let e = sym (spell_name bytes low high n7) in
     let good : not (good_bytes bytes) ≡ false = ap not (good_bytes_law bytes ∙ n7) in
     by_test (used (padded bytes))
-    (λ f8. told _ (name_used_law used bytes _ e refl f8) (inr (good, inl (sym (same n7) ∙ f8, refl, refl))))
-    (λ n8. told _ (name_good used bytes _ e refl n8) ((good, (sym (same n7) ∙ n8, tt)), record { holds = refl; named = n7; few = high })))
-    (λ f7. told _ (name_bad used bytes _ (spell_strange bytes f7) refl) (inl (ap not (good_bytes_law bytes ∙ f7), refl, refl)))
+    (λ f8. told _ (name_used_law used bytes _ e f8) (inr (good, inl (sym (same n7) ∙ f8, refl, refl))))
+    (λ n8. told _ (name_good used bytes _ e n8) ((good, (sym (same n7) ∙ n8, tt)), record { holds = refl; named = n7; few = high })))
+    (λ f7. told _ (name_bad used bytes (sym (spell_strange bytes f7))) (inl (ap not (good_bytes_law bytes ∙ f7), refl, refl)))
 
 -- ---- read points so far
 
@@ -96,7 +94,7 @@ reads_more reads i kinds names p body h made so =
 -- ---- a kind
 
 module _ (n i : ℕ) (sensor : ℕ → Bool) (kinds : List ℕ) (kind index : ℕ) (same : ltb index i && sensor index ≡ ltb index (length kinds) && eqb (get_or kinds index 0) 0) where
-  kind_known : kind_fits n kinds kind index ≡ true → (k : Kind) × (kind_of n sensor i kind index ≡ Known k) × (is_sensor k ≡ eqb kind 0)
+  kind_known : kind_fits n kinds kind index ≡ true → (k : Kind) × (kind_of n sensor i kind index ≡ Some k) × (is_sensor k ≡ eqb kind 0)
   unfolding kind_fits kind_of
   kind_known e =
       by_test (eqb kind 0)
@@ -107,7 +105,7 @@ module _ (n i : ℕ) (sensor : ℕ → Bool) (kinds : List ℕ) (kind index : �
       (λ c. by_test (ltb index i && sensor index) (λ d. (PastSensor index, rw (a, b, c, d), sym a)) (λ d. clash e (rw (a, b, c, ← same, d))))
       (λ c. clash e (rw (a, b, c)))))
 
-  kind_bad : kind_fits n kinds kind index ≡ false → kind_of n sensor i kind index ≡ Bad
+  kind_bad : kind_fits n kinds kind index ≡ false → kind_of n sensor i kind index ≡ None
   unfolding kind_fits kind_of
   kind_bad e =
       let f0 = or_false (eqb kind 0 && eqb index 0) _ e in

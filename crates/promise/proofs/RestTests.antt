@@ -11,7 +11,7 @@ use lib.ListN.{get_or, drop}
 use Rattle.words.proofs.BoolLaws.{by_test}
 use Rattle.scan.specs.declared.set.Set.{Set}
 use Rattle.scan.specs.Set.{most_reads, most_outputs, most_constraints, with_rest}
-use Rattle.header.specs.declared.numbers.Taken.{Taken}
+use Rattle.header.specs.Fault.{Taken}
 use Rattle.header.specs.Test.{Test, test}
 use Rattle.loader.specs.Load.{going_on, and_then, good_if, field_at, rest_word, rest_good, rest_at, constraints_from, after_rest}
 use Rattle.promise.specs.Fields.{Fields, fields_from}

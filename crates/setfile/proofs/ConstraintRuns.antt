@@ -19,17 +19,12 @@ use Rattle.scan.specs.declared.set.Set.{Set}
 use Rattle.scan.specs.Set.{most_reads, most_outputs, most_points, most_constraints, zero_constraint, with_counts, with_constraints, with_rest, no_constraint}
 use Rattle.scan.specs.Shape.{constraint_tests}
 use Rattle.scan.proofs.ShapeLaws.{Masks, constraint_masks}
-use Rattle.header.specs.declared.header.Header.{Header}
-use Rattle.header.specs.declared.header.Header.TheVariants.{Refused as Stopped, Field}
-use Rattle.literal.specs.declared.literal.Literals.{Literals}
-use Rattle.header.specs.declared.numbers.Taken.{Taken}
-use Rattle.header.specs.declared.numbers.Taken.TheVariants.{Refused as Denied, Good}
-use Rattle.loader.specs.declared.loader.Progress.TheVariants.{At}
+use Rattle.header.specs.Header.{Header, Refused as Stopped, Field, header_of, body_of, fits_table}
+use Rattle.literal.specs.Literal.{Literals, narrows, wides, good_literals, literals_from, literals_of}
+use Rattle.header.specs.Fault.{Taken, Refused as Denied, Good}
+use Rattle.loader.specs.Load.{At, refusal, going_on, and_then, field_done, with_constraint, constraint_given, constraint_at, end_at, constraints_given, constraints_from}
 use Rattle.header.specs.Bytes.{Bytes}
 use Rattle.header.specs.Tag.{is_constraint, is_wide, tag_by, literal_size, names_high}
-use Rattle.header.specs.Header.{header_of, body_of, fits_table}
-use Rattle.literal.specs.Literal.{narrows, wides, good_literals, literals_from, literals_of}
-use Rattle.loader.specs.Load.{refusal, going_on, and_then, field_done, with_constraint, constraint_given, constraint_at, end_at, constraints_given, constraints_from}
 use Rattle.writer.specs.Write.{field_of, literals_by, constraint_tag, literal_body}
 use Rattle.setfile.proofs.LiteralPlaces.{mask}
 use Rattle.setfile.proofs.BodyPlaces.{up_to, worth, said_if, said_of, all_said, by_kind, upto_long}

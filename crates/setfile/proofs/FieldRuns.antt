@@ -11,8 +11,7 @@ use native.Mathlib.Omega.{arith}
 use lib.ListN.{length, get_or, take, drop, set, replicate, length-set, length-replicate, get_or-replicate}
 use lib.Seq.{get_or-set_same, get_or-set_other, take-suc-set, drop-cons, ext_get_or}
 use Rattle.scan.specs.declared.set.Set.{Set}
-use Rattle.loader.specs.declared.loader.Progress.TheVariants.{At}
-use Rattle.loader.specs.Load.{Loading}
+use Rattle.loader.specs.Load.{At, Loading}
 use Rattle.writer.specs.Write.{field_of, fields_of}
 use Rattle.writer.proofs.WriteLaws.{fields_append}
 use Rattle.setfile.proofs.Fields.{after_field}

@@ -10,11 +10,9 @@ use lib.Dec.{leb}
 use lib.ListN.{length, get_or, take, drop, drop_of_length-le, length-append, length-take, length-drop, take-append-drop}
 use lib.Seq.{take-append_seam, drop_at, drop-drop, length-take-le, get_or-take, get_or-drop}
 use Rattle.scan.specs.Set.{most_constraints}
-use Rattle.header.specs.declared.header.RawField.TheVariants.{Field as Whole}
-use Rattle.header.specs.declared.header.Header.TheVariants.{Field}
 use Rattle.header.specs.Bytes.{Bytes}
 use Rattle.header.specs.Tag.{is_constraint}
-use Rattle.header.specs.Header.{body_length, raw_of, body_of, fits_table, is_due, header_of}
+use Rattle.header.specs.Header.{Field, whole, body_length, raw_of, body_of, fits_table, is_due, header_of}
 use Rattle.writer.specs.Write.{field_of}
 use Rattle.header.proofs.HeaderLaws.{not_cut, raw_field, a_field, found as header_found}
 
@@ -58,7 +56,7 @@ module _ (tag : ℕ) (body rest : List ℕ) where
       let s = field_of tag body ++ rest in
       let e = length_said in
       let l = length-append body rest in
-      let there : raw_of s ≡ Whole tag (length body) = raw_field s (not_cut s (omega (arith, l)) (omega (arith, l, e))) ∙ ap (Whole tag) e in
+      let there : raw_of s ≡ whole tag (length body) = raw_field s (not_cut s (omega (arith, l)) (omega (arith, l, e))) ∙ ap (whole tag) e in
       a_field s due m tag (length body) there d f t
 
 -- What is left after a field.

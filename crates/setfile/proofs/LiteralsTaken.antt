@@ -20,11 +20,10 @@ use Rattle.scan.specs.declared.set.Constraint.{Constraint}
 use Rattle.scan.specs.Set.{most_reads, most_outputs, rank_end, rank, outs, zero_constraint}
 use Rattle.scan.specs.Shape.{rank_ok, constraint_tests}
 use Rattle.literal.specs.declared.literal.Said.{Said}
-use Rattle.literal.specs.declared.literal.Literals.{Literals}
-use Rattle.header.specs.declared.numbers.Taken.TheVariants.{Good}
+use Rattle.literal.specs.Literal.{Literals, said_by, place, is_literal, with_literal, refused_literals, good_literals, literal_then, literals_from, literals_of}
+use Rattle.header.specs.Fault.{Good}
 use Rattle.header.specs.Bytes.{Bytes}
 use Rattle.header.specs.Tag.{names_high}
-use Rattle.literal.specs.Literal.{said_by, place, is_literal, with_literal, refused_literals, good_literals, literal_then, literals_from, literals_of}
 use Rattle.writer.specs.Write.{literals_by, literal_body}
 use Rattle.literal.proofs.LiteralLaws.{room}
 use Rattle.setfile.proofs.LiteralPlaces.{said, said_is, place_of, places_end, mask, added, with_added, alike, alike_true, bit_hit, bit_sign, bit_else, bit_miss, mask_wide, rank_hit, rank_miss}

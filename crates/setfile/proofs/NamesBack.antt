@@ -12,8 +12,8 @@ use lib.Seq.{get_or-append-add}
 use borrow.Author.Tests.{lt-ltb, le-ltb, eq-eqb}
 use Rattle.words.proofs.BoolLaws.{cond_true, cond_false}
 use Rattle.words.proofs.LoopLaws.{all_true, all_at}
-use Rattle.shape.specs.declared.names.Spelled.{Spelled}
-use Rattle.scan.specs.Set.{name_places, zero_name}
+use Rattle.std.specs.Prelude.{Option, None, Some, unwrap_or}
+use Rattle.scan.specs.Set.{name_places}
 use Rattle.scan.specs.Names.{name_byte, all_name_bytes, padded, length_ok, zero_at, name_length, name_bytes, place_ok, name_ok}
 use Rattle.shape.specs.Spelling.{spelling}
 use Rattle.scan.proofs.NamesLaws.{name_formed, bytes_long, bytes_named, padded_bytes, padded_long, length_padded, bytes_padded}
@@ -27,10 +27,10 @@ name_bounds name e =
     (omega (arith, f.some), omega (arith, f.few))
 
 -- A well-formed name is read back.
-pub name_back : (name : List ℕ) → name_ok name ≡ true → spelling (name_bytes name) ≡ record { good = true; name = name }
+pub name_back : (name : List ℕ) → name_ok name ≡ true → spelling (name_bytes name) ≡ Some name
 name_back name e =
     let b = name_bounds name e in
-    sym (spell_name (name_bytes name) b.0 b.1 (bytes_named name (name_formed name e))) ∙ ap (λ (n : List ℕ). record { good = true; name = n }) (padded_bytes name e)
+    sym (spell_name (name_bytes name) b.0 b.1 (bytes_named name (name_formed name e))) ∙ ap Some (padded_bytes name e)
 
 module _ (bytes : List ℕ) (some : 1 ≤ length bytes) (few : length bytes ≤ name_places) (named : all_name_bytes bytes ≡ true) where
   place_ok_law : (k : ℕ) → k < name_places → place_ok (padded bytes) k ≡ true
@@ -57,19 +57,19 @@ module _ (bytes : List ℕ) (some : 1 ≤ length bytes) (few : length bytes ≤ 
       let e = length_padded bytes named few in
       rw (eq-eqb (length (padded bytes)) name_places (padded_long bytes named few), lt-ltb 0 (name_length (padded bytes)) (omega arith), all_true name_places (place_ok (padded bytes)) place_ok_law)
 
-pub record NameTaken (bytes : List ℕ) : Type 0 where
-  pub name_ok_law : name_ok (spelling bytes).name ≡ true
-  pub same : name_bytes (spelling bytes).name ≡ bytes
+pub record NameTaken (name bytes : List ℕ) : Type 0 where
+  pub name_ok_law : name_ok name ≡ true
+  pub same : name_bytes name ≡ bytes
 
 -- A name that was read from 1 to 8 bytes is well formed, and its bytes are those that were read.
-pub name_taken : (bytes : List ℕ) → 1 ≤ length bytes → length bytes ≤ name_places → (spelling bytes).good ≡ true → NameTaken bytes
+pub name_taken : (bytes name : List ℕ) → 1 ≤ length bytes → length bytes ≤ name_places → spelling bytes ≡ Some name → NameTaken name bytes
 unfolding spelling
-name_taken bytes some few e =
+name_taken bytes name some few e =
     let named = tested (length_ok bytes) (all_name_bytes bytes) e in
-    let n : (spelling bytes).name ≡ padded bytes = ap (λ (r : Spelled). r.name) (sym (spell_name bytes some few named)) in
+    let n : name ≡ padded bytes = ap (λ (x : Option (List ℕ)). unwrap_or x name) (sym e ∙ sym (spell_name bytes some few named)) in
     record { name_ok_law = ap name_ok n ∙ padded_ok bytes some few named; same = ap name_bytes n ∙ bytes_padded bytes named few }
   where
-    tested : (a b : Bool) → (cond {A = Spelled} (a && b) (record { good = true; name = padded bytes }) (record { good = false; name = zero_name })).good ≡ true → b ≡ true
+    tested : (a b : Bool) → cond {A = Option (List ℕ)} (a && b) (Some (padded bytes)) None ≡ Some name → b ≡ true
     tested true true t = refl
-    tested true false t = t
+    tested true false t = let z : ◌≡◌ {A = ℕ} 0 1 = cc in absurd (omega arith)
     tested false b t = let z : ◌≡◌ {A = ℕ} 0 1 = cc in absurd (omega arith)

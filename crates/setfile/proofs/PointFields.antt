@@ -18,11 +18,9 @@ use Rattle.scan.specs.Set.{name_places, read_point}
 use Rattle.shape.specs.Spelling.{spelling}
 use Rattle.scan.specs.Names.{name_bytes, name_ok, first_output, is_used}
 use Rattle.scan.specs.Shape.{is_sensor, kind_ok}
-use Rattle.header.specs.declared.numbers.Taken.TheVariants.{Refused as Denied, Good}
-use Rattle.loader.specs.declared.point.KindRead.{KindRead}
-use Rattle.loader.specs.declared.point.KindRead.TheVariants.{Bad, Known}
-use Rattle.loader.specs.declared.point.NameField.{NameField}
-use Rattle.loader.specs.Load.{name_field, kind_if, kind_of, read_told, read_field, sensor_at, read_of, output_of}
+use Rattle.header.specs.Fault.{Refused as Denied, Good}
+use Rattle.std.specs.Prelude.{Option, None, Some}
+use Rattle.loader.specs.Load.{NameField, name_field, kind_if, kind_of, read_told, read_field, sensor_at, read_of, output_of}
 use Rattle.writer.specs.Write.{kind_bytes, read_body, output_body}
 use Rattle.loader.proofs.LoadLaws.{name_bad, name_used_law, name_good, read_known}
 use Rattle.setfile.proofs.Fields.{two_and_rest}
@@ -32,7 +30,7 @@ use Rattle.setfile.proofs.PointsFit.{ReadFits, OutputFits, not_used, unused}
 -- ---- kinds
 
 kind_back : (set : Set) (i : ℕ) (kind : Kind) (rest : List ℕ) → kind_ok set.reads set.n i kind ≡ true
-    → kind_of set.n (sensor_at set.reads) i (get_or (kind_bytes kind ++ rest) 0 0) (get_or (kind_bytes kind ++ rest) 1 0) ≡ Known kind
+    → kind_of set.n (sensor_at set.reads) i (get_or (kind_bytes kind ++ rest) 0 0) (get_or (kind_bytes kind ++ rest) 1 0) ≡ Some kind
 unfolding kind_of kind_ok
 kind_back set i Sensor rest e = refl
 kind_back set i (PastOutput k) rest e = rw e
@@ -43,7 +41,7 @@ kind_drop Sensor rest = refl
 kind_drop (PastOutput k) rest = refl
 kind_drop (PastSensor k) rest = refl
 
-if_known : (b : Bool) (k kind : Kind) → kind_if b k ≡ Known kind → (b ≡ true) × (k ≡ kind)
+if_known : (b : Bool) (k kind : Kind) → kind_if b k ≡ Some kind → (b ≡ true) × (k ≡ kind)
 if_known true k kind e = (refl, cc)
 if_known false k kind e = let z : ◌≡◌ {A = ℕ} 0 1 = cc in absurd (omega arith)
 
@@ -52,7 +50,7 @@ module _ (set : Set) (i k x : ℕ) (kind : Kind) where
   Right t = (kind_bytes t ≡ k ∷ x ∷ []) × (kind_ok set.reads set.n i t ≡ true)
 
   kind_cases : (a b c : Bool) → eqb k 0 ≡ a → eqb k 1 ≡ b → eqb k 2 ≡ c
-      → cond a (kind_if (eqb x 0) Sensor) (cond b (kind_if (ltb x set.n) (PastOutput x)) (cond c (kind_if (ltb x i && is_sensor (read_point set.reads x).kind) (PastSensor x)) Bad)) ≡ Known kind
+      → cond a (kind_if (eqb x 0) Sensor) (cond b (kind_if (ltb x set.n) (PastOutput x)) (cond c (kind_if (ltb x i && is_sensor (read_point set.reads x).kind) (PastSensor x)) None)) ≡ Some kind
       → Right kind
   unfolding Right kind_ok
   kind_cases true b c ea eb ec e =
@@ -67,7 +65,7 @@ module _ (set : Set) (i k x : ℕ) (kind : Kind) where
   kind_cases false false false ea eb ec e = let z : ◌≡◌ {A = ℕ} 0 1 = cc in absurd (omega arith)
 
   -- a kind that was read is right, and its bytes are those that were read
-  kind_taken : kind_of set.n (sensor_at set.reads) i k x ≡ Known kind → (kind_bytes kind ≡ k ∷ x ∷ []) × (kind_ok set.reads set.n i kind ≡ true)
+  kind_taken : kind_of set.n (sensor_at set.reads) i k x ≡ Some kind → (kind_bytes kind ≡ k ∷ x ∷ []) × (kind_ok set.reads set.n i kind ≡ true)
   unfolding kind_of Right
   kind_taken e = kind_cases (eqb k 0) (eqb k 1) (eqb k 2) refl refl refl e
 
@@ -80,7 +78,7 @@ no_outputs set name = refl
 
 -- a name that fits is given by its bytes, where it is not used
 name_told : (used : List ℕ → Bool) (name : List ℕ) → name_ok name ≡ true → used name ≡ false → name_field used (name_bytes name) ≡ record { taken = Good; name = name }
-name_told used name ok new = name_good used (name_bytes name) (record { good = true; name = name }) (sym (name_back name ok)) refl new
+name_told used name ok new = name_good used (name_bytes name) name (name_back name ok) new
 
 -- The body of a read point that fits gives the point.
 pub read_back : (set : Set) (i : ℕ) (p : ReadPoint) → ReadFits set.n set.reads i p → read_of set i (read_body p) ≡ record { taken = Good; read = p }
@@ -98,34 +96,34 @@ record NameTold (used : List ℕ → Bool) (bytes : List ℕ) : Type 0 where
   new : used (name_field used bytes).name ≡ false
 
 name_given : (used : List ℕ → Bool) (bytes : List ℕ) → 1 ≤ length bytes → length bytes ≤ name_places → (name_field used bytes).taken ≡ Good → NameTold used bytes
-name_given used bytes some few t = go (spelling bytes).good refl
+name_given used bytes some few t = go (spelling bytes) refl
   where
-    by_used : (u : Bool) → (spelling bytes).good ≡ true → used (spelling bytes).name ≡ u → NameTold used bytes
-    by_used true g e = absurd (never (sym (ap (λ (f : NameField). f.taken) (name_used_law used bytes (spelling bytes) refl g e)) ∙ t))
+    by_used : (name : List ℕ) (u : Bool) → spelling bytes ≡ Some name → used name ≡ u → NameTold used bytes
+    by_used name true g e = absurd (never (sym (ap (λ (f : NameField). f.taken) (name_used_law used bytes name g e)) ∙ t))
       where
         never : Denied 8 ≡ Good → ⊥
         never w = let z : ◌≡◌ {A = ℕ} 0 1 = cc in omega arith
-    by_used false g e =
-        let n = name_taken bytes some few g in
-        let same : (spelling bytes).name ≡ (name_field used bytes).name = sym (ap (λ (f : NameField). f.name) (name_good used bytes (spelling bytes) refl g e)) in
+    by_used name false g e =
+        let n = name_taken bytes name some few g in
+        let same : name ≡ (name_field used bytes).name = sym (ap (λ (f : NameField). f.name) (name_good used bytes name g e)) in
         record {
           name_ok_law = subst (λ (x : List ℕ). name_ok x ≡ true) same n.name_ok_law;
           same = subst (λ (x : List ℕ). name_bytes x ≡ bytes) same n.same;
           new = subst (λ (x : List ℕ). used x ≡ false) same e;
         }
 
-    go : (g : Bool) → (spelling bytes).good ≡ g → NameTold used bytes
-    go true g = by_used (used (spelling bytes).name) g refl
-    go false g = absurd (never (sym (ap (λ (f : NameField). f.taken) (name_bad used bytes (spelling bytes) refl g)) ∙ t))
+    go : (got : Option (List ℕ)) → spelling bytes ≡ got → NameTold used bytes
+    go (Some name) g = by_used name (used name) g refl
+    go None g = absurd (never (sym (ap (λ (f : NameField). f.taken) (name_bad used bytes g)) ∙ t))
       where
         never : Denied 7 ≡ Good → ⊥
         never w = let z : ◌≡◌ {A = ℕ} 0 1 = cc in omega arith
 
 module _ (body : List ℕ) (set : Set) (i : ℕ) (some : 3 ≤ length body) (few : length body ≤ 2 + name_places) where
-  by_kind : (kr : KindRead) → kind_of set.n (sensor_at set.reads) i (get_or body 0 0) (get_or body 1 0) ≡ kr → let f = read_told (name_field (is_used set.reads i set.outputs 0) (drop 2 body)) kr in
+  by_kind : (kr : Option Kind) → kind_of set.n (sensor_at set.reads) i (get_or body 0 0) (get_or body 1 0) ≡ kr → let f = read_told (name_field (is_used set.reads i set.outputs 0) (drop 2 body)) kr in
       f.taken ≡ Good → ReadFits set.n set.reads i f.read × (read_body f.read ≡ body)
-  by_kind Bad e t = let z : ◌≡◌ {A = ℕ} 0 1 = cc in absurd (omega arith)
-  by_kind (Known kind) e t =
+  by_kind None e t = let z : ◌≡◌ {A = ℕ} 0 1 = cc in absurd (omega arith)
+  by_kind (Some kind) e t =
       let l = length-drop 2 body in
       let k = kind_taken set i (get_or body 0 0) (get_or body 1 0) kind e in
       let n = name_given (is_used set.reads i set.outputs 0) (drop 2 body) (omega arith) (omega arith) t in (

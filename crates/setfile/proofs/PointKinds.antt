@@ -15,12 +15,9 @@ use Rattle.scan.specs.declared.set.OutputPoint.{OutputPoint}
 use Rattle.scan.specs.declared.set.Set.{Set}
 use Rattle.scan.specs.Set.{most_reads, most_outputs, name_places, zero_read, zero_output, zero_set, with_reads, with_outputs, no_read, no_output}
 use Rattle.scan.specs.Names.{name_bytes}
-use Rattle.header.specs.declared.numbers.Taken.{Taken}
-use Rattle.header.specs.declared.numbers.Taken.TheVariants.{Good}
-use Rattle.loader.specs.declared.point.ReadField.{ReadField}
-use Rattle.loader.specs.declared.point.NameField.{NameField}
+use Rattle.header.specs.Fault.{Taken, Good}
+use Rattle.loader.specs.Load.{ReadField, NameField, going_on, and_then, of_counts, read_of, read_at, reads_from, output_of, output_at, outputs_from}
 use Rattle.header.specs.Header.{header_of, fits_table}
-use Rattle.loader.specs.Load.{going_on, and_then, of_counts, read_of, read_at, reads_from, output_of, output_at, outputs_from}
 use Rattle.writer.specs.Write.{kind_bytes, read_body, output_body, read_tag, output_tag}
 use Rattle.header.proofs.HeaderLaws.{table_bounds}
 use Rattle.setfile.proofs.NamesBack.{name_bounds}

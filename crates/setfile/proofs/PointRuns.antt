@@ -13,15 +13,11 @@ use borrow.Author.Tests.{eqb-false, eq-eqb}
 use Rattle.words.proofs.BoolLaws.{or_left, or_false}
 use Rattle.scan.specs.declared.set.Set.{Set}
 use Rattle.scan.specs.Set.{most_constraints}
-use Rattle.header.specs.declared.header.Header.{Header}
-use Rattle.header.specs.declared.header.Header.TheVariants.{Refused as Stopped, Field}
-use Rattle.header.specs.declared.numbers.Taken.{Taken}
-use Rattle.header.specs.declared.numbers.Taken.TheVariants.{Refused as Denied, Good}
-use Rattle.loader.specs.declared.loader.Progress.TheVariants.{At}
+use Rattle.header.specs.Header.{Header, Refused as Stopped, Field, header_of, body_of, fits_table}
+use Rattle.header.specs.Fault.{Taken, Refused as Denied, Good}
+use Rattle.loader.specs.Load.{At, Loading, going_on, and_then, field_done, field_by}
 use Rattle.header.specs.Bytes.{Bytes}
 use Rattle.header.specs.Tag.{is_constraint}
-use Rattle.header.specs.Header.{header_of, body_of, fits_table}
-use Rattle.loader.specs.Load.{Loading, going_on, and_then, field_done, field_by}
 use Rattle.writer.specs.Write.{field_of, fields_of}
 use Rattle.header.proofs.HeaderLaws.{due_is}
 use Rattle.setfile.proofs.Fields.{body_back, field_back, found}

@@ -14,14 +14,11 @@ use borrow.Author.Tests.{eqb-false, lt-ltb, ltb-true}
 use Rattle.words.proofs.BoolLaws.{by_test, and_true}
 use Rattle.scan.specs.declared.set.Set.{Set}
 use Rattle.scan.specs.Set.{with_rest}
-use Rattle.header.specs.declared.header.Header.{Header}
-use Rattle.header.specs.declared.header.Header.TheVariants.{Refused as Stopped, Field}
-use Rattle.header.specs.declared.numbers.Taken.{Taken}
+use Rattle.header.specs.Header.{Header, Refused as Stopped, Field, header_of, body_of}
+use Rattle.header.specs.Fault.{Taken}
 use Rattle.header.specs.Bytes.{Bytes}
-use Rattle.header.specs.Header.{header_of, body_of}
 use Rattle.header.proofs.HeaderLaws.{due_is, rest_length}
-use Rattle.loader.specs.declared.loader.Progress.TheVariants.{At}
-use Rattle.loader.specs.Load.{Loading, going_on, good_if, field_done, field_by, rest_word, rest_good, rest_at}
+use Rattle.loader.specs.Load.{At, Loading, going_on, good_if, field_done, field_by, rest_word, rest_good, rest_at}
 use Rattle.writer.specs.Write.{field_of, rest_body, rest_field}
 use Rattle.writer.proofs.WriteLaws.{rest_none, rest_some}
 use Rattle.setfile.proofs.Fields.{two_bytes, field_back, body_back, after_field, found}

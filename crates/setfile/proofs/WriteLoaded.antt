@@ -14,15 +14,10 @@ use Rattle.scan.specs.declared.set.Constraint.{Constraint}
 use Rattle.scan.specs.declared.set.Set.{Set}
 use Rattle.scan.specs.Set.{most_reads, most_outputs, most_points, most_constraints, zero_set}
 use Rattle.scan.specs.Shape.{count_tests, well_formed}
-use Rattle.header.specs.declared.header.Header.{Header}
-use Rattle.header.specs.declared.header.Header.TheVariants.{Refused as Stopped, Field}
-use Rattle.loader.specs.declared.loader.Progress.{Progress}
-use Rattle.loader.specs.declared.loader.Progress.TheVariants.{At, Refused}
+use Rattle.header.specs.Header.{Header, Refused as Stopped, Field, header_of, body_of, fits_table}
+use Rattle.loader.specs.Load.{Progress, At, Refused, Loading, going_on, then_from, and_then, field_done, field_by, of_counts, good_if, counts_told, counts_made, counts_at, reads_from, outputs_from, rest_at, constraints_from, after_counts, after_reads, after_outputs, after_rest, answer_of, load_from, load_of}
 use Rattle.loader.specs.declared.loader.LoadAnswer.TheVariants.{Loaded}
 use Rattle.header.specs.Bytes.{Bytes}
-use Rattle.header.specs.Header.{header_of, body_of, fits_table}
-use Rattle.loader.specs.Load.{Loading, going_on, then_from, and_then, field_done, field_by, of_counts, good_if, counts_told, counts_made, counts_at, reads_from, outputs_from, rest_at, constraints_from}
-use Rattle.loader.specs.Load.{after_counts, after_reads, after_outputs, after_rest, answer_of, load_from, load_of}
 use Rattle.writer.specs.Write.{field_of, fields_of, read_body, output_body, constraint_tag, literal_body, read_tag, output_tag, rest_field, write_of}
 use Rattle.header.proofs.HeaderLaws.{table_bounds, due_is}
 use Rattle.setfile.proofs.Fields.{two_bytes, found}

@@ -1,18 +1,19 @@
 -- Finding a point by its name, by the way that the code's tests went.
 -- Assumes nothing.
 use mathlib.Core.Path.{◌≡◌, sym, ap, ap₂, ◌∙◌}
+use native.Mathlib.Omega.{arith}
 use mathlib.Core.List.{List}
 use mathlib.Core.Bool.{true, false, ◌&&◌}
 use Prim.Native.Nat.{ℕ, ◌≤◌, ◌<◌}
 use lib.ListN.{length}
 use borrow.Author.Tests.{le-leb, lt-ltb, le-ltb}
-use Rattle.words.proofs.BoolLaws.{by_test, clash}
+use Rattle.words.proofs.BoolLaws.{by_test}
 use Rattle.scan.specs.declared.set.Set.{Set}
 use Rattle.scan.specs.Set.{name_places}
 use Rattle.scan.specs.Names.{length_ok, all_name_bytes, padded, first_read, first_output}
 use Rattle.scan.specs.Shape.{well_formed}
 use Rattle.shape.specs.declared.finding.Found.TheVariants.{Read, Output, BadSet, BadLength, Unknown}
-use Rattle.shape.specs.declared.names.Spelled.{Spelled}
+use Rattle.std.specs.Prelude.{Option, None, Some, unwrap_or}
 use Rattle.shape.specs.Spelling.{spelling}
 use Rattle.shape.specs.Finding.{find_padded, find_of}
 use Rattle.shape.proofs.SpellingLaws.{length_right, spell_strange, spell_name}
@@ -59,11 +60,17 @@ module _ (s : Set) (bytes : List ℕ) (formed : well_formed s ≡ true) where
     high : length bytes ≤ name_places
     high = (length_right bytes fit).1
 
-    pub find_unspelt : (spelling bytes).good ≡ false → Unknown ≡ find_of s bytes
-    find_unspelt e = by_test (all_name_bytes bytes) (λ t. clash (sym (ap (λ (x : Spelled). x.good) (spell_name bytes low high t))) e) (find_strange low high)
+    pub find_unspelt : spelling bytes ≡ None → Unknown ≡ find_of s bytes
+    find_unspelt e = by_test (all_name_bytes bytes) (λ t. absurd (never (spell_name bytes low high t ∙ e))) (find_strange low high)
+      where
+        never : Some (padded bytes) ≡ None → ⊥
+        never w = let z : ◌≡◌ {A = ℕ} 0 1 = cc in omega arith
 
-    pub find_spelt : (spelling bytes).good ≡ true → find_padded s (spelling bytes).name ≡ find_of s bytes
-    find_spelt e =
+    pub find_spelt : (name : List ℕ) → spelling bytes ≡ Some name → find_padded s name ≡ find_of s bytes
+    find_spelt name e =
         by_test (all_name_bytes bytes)
-        (λ t. ap (λ (x : Spelled). find_padded s x.name) (sym (spell_name bytes low high t)) ∙ find_named low high t)
-        (λ t. clash e (sym (ap (λ (x : Spelled). x.good) (spell_strange bytes t))))
+        (λ t. ap (λ (x : Option (List ℕ)). find_padded s (unwrap_or x name)) (sym (spell_name bytes low high t ∙ e)) ∙ find_named low high t)
+        (λ t. absurd (never (spell_strange bytes t ∙ e)))
+      where
+        never : None ≡ Some name → ⊥
+        never w = let z : ◌≡◌ {A = ℕ} 0 1 = cc in omega arith

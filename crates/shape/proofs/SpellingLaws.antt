@@ -8,7 +8,8 @@ use lib.Dec.{leb}
 use lib.ListN.{length}
 use borrow.Author.Tests.{le-leb, leb-true}
 use Rattle.words.proofs.BoolLaws.{and_true, and_false}
-use Rattle.scan.specs.Set.{name_places, zero_name}
+use Rattle.std.specs.Prelude.{None, Some}
+use Rattle.scan.specs.Set.{name_places}
 use Rattle.shape.specs.Spelling.{spelling}
 use Rattle.scan.specs.Names.{length_ok, all_name_bytes, padded}
 
@@ -18,16 +19,16 @@ module _ (bytes : List ℕ) where
       let both = and_true (leb 1 (length bytes)) (leb (length bytes) name_places) e in
       (leb-true 1 (length bytes) both.0, leb-true (length bytes) name_places both.1)
 
-  spell_none : length_ok bytes && all_name_bytes bytes ≡ false → record { good = false; name = zero_name } ≡ spelling bytes
+  spell_none : length_ok bytes && all_name_bytes bytes ≡ false → None ≡ spelling bytes
   unfolding spelling
   spell_none e = sym (rw e)
 
-  pub spell_length : length_ok bytes ≡ false → record { good = false; name = zero_name } ≡ spelling bytes
+  pub spell_length : length_ok bytes ≡ false → None ≡ spelling bytes
   spell_length e = spell_none (ap (λ (b : Bool). b && all_name_bytes bytes) e)
 
-  pub spell_strange : all_name_bytes bytes ≡ false → record { good = false; name = zero_name } ≡ spelling bytes
+  pub spell_strange : all_name_bytes bytes ≡ false → None ≡ spelling bytes
   spell_strange e = spell_none (and_false (length_ok bytes) (all_name_bytes bytes) e)
 
-  pub spell_name : 1 ≤ length bytes → length bytes ≤ name_places → all_name_bytes bytes ≡ true → record { good = true; name = padded bytes } ≡ spelling bytes
+  pub spell_name : 1 ≤ length bytes → length bytes ≤ name_places → all_name_bytes bytes ≡ true → Some (padded bytes) ≡ spelling bytes
   unfolding spelling
   spell_name low high e = sym (rw (le-leb 1 (length bytes) low, le-leb (length bytes) name_places high, e))

@@ -1,11 +1,8 @@
 -- Bytes read as a name.
 -- Assumes nothing.
-use Rattle.std.specs.Prelude.{ℕ, true, false, cond, ◌&&◌, List}
-use Rattle.shape.specs.declared.names.Spelled.{Spelled}
-use Rattle.scan.specs.Set.{zero_name}
+use Rattle.std.specs.Prelude.{ℕ, cond, ◌&&◌, List, Option, None, Some}
 use Rattle.scan.specs.Names.{length_ok, all_name_bytes, padded}
 
--- the name that bytes spell: their eight places, or that they are none, beside zeros
-unfoldable pub spelling : List ℕ → Spelled
-spelling bytes =
-    cond (length_ok bytes && all_name_bytes bytes) (record { good = true; name = padded bytes }) (record { good = false; name = zero_name })
+-- the name that bytes spell: their eight places, if they are a name
+unfoldable pub spelling : List ℕ → Option (List ℕ)
+spelling bytes = cond (length_ok bytes && all_name_bytes bytes) (Some (padded bytes)) None

@@ -49,10 +49,8 @@ pub fn find(set: Set, name: &[u8]) -> Found
     if !is_length_ok(name) {
         return Found::BadLength;
     }
-    let spelled = spell(name);
-    if !spelled.good {
-        return Found::Unknown;
+    match spell(name) {
+        Some(places) => find_padded(set, places),
+        None => Found::Unknown,
     }
-    let places = spelled.name;
-    find_padded(set, places)
 }

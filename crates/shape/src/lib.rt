@@ -7,6 +7,6 @@ mod finding; // finding a point by its name
 mod told; // the numbers of its answers
 
 pub use finding::{Found, find};
-pub use names::{Spelled, is_name_used, name_length, names_of_outputs, names_of_reads, spell};
+pub use names::{is_name_used, name_length, names_of_outputs, names_of_reads, spell};
 pub use shape::{are_counts_ok, is_sensor, well_formed};
 pub use told::number_of;

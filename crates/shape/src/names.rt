@@ -49,25 +49,14 @@ fn pad(bytes: &[u8]) -> [u8; NAME_PLACES]
     name
 }
 
-// The eight places of a name, or that bytes are none, beside zeros.
-#[derive(Clone, Copy)]
-pub struct Spelled {
-    pub good: bool,
-    pub name: [u8; NAME_PLACES],
-}
-
-// The name that the bytes spell.
-pub fn spell(bytes: &[u8]) -> Spelled
+// The eight places of the name that the bytes spell, if they are one.
+pub fn spell(bytes: &[u8]) -> Option<[u8; NAME_PLACES]>
     ensures { result ≡ spelling bytes.now }
 {
-    if is_length_ok(bytes) {
-        if are_name_bytes(bytes) {
-            let name = pad(bytes);
-            return Spelled { good: true, name };
-        }
+    if is_length_ok(bytes) && are_name_bytes(bytes) {
+        return Some(pad(bytes));
     }
-    let name = [0u8; NAME_PLACES];
-    Spelled { good: false, name }
+    None
 }
 
 // How many bytes the name has: those before the first zero.

@@ -1,11 +1,13 @@
 -- The code's way with literals: what is said at a place of a body, and the literals taken so far as the bits of one word, apart from their ranks.
 -- Assumes nothing.
-use Rattle.std.specs.Prelude.{ℕ, ◌+◌, ◌%◌, ◌/◌, ◌^◌, Bool, cond, List, leb, length, get_or}
+use Rattle.std.specs.Prelude.{ℕ, ◌+◌, ◌%◌, ◌/◌, ◌^◌, Bool, cond, List, Result, Ok, Err, leb, length, get_or}
 use Rattle.scan.specs.declared.set.Constraint.{Constraint}
 use Rattle.scan.specs.Set.{most_reads, most_outputs}
 use Rattle.literal.specs.declared.literal.Said.{Said}
 use Rattle.header.specs.Tag.{literal_size}
-use Rattle.literal.specs.Literal.{narrow, wide, torn, with_bit}
+use Rattle.header.specs.declared.numbers.Fault.{Fault}
+use Rattle.header.specs.Fault.{number}
+use Rattle.literal.specs.Literal.{narrow, wide, torn, with_bit, Literals, refused_literals, good_literals}
 
 -- the literal that begins at place i of a body, wide or not
 abbrev pub literal_at : Bool → List ℕ → ℕ → Said
@@ -41,3 +43,8 @@ of_word w ranks = record {
   out_negated = part (sign_bits + most_reads) most_outputs w;
   ranks = ranks;
 }
+
+-- what the code's answer on a body says: a fault is told by its number
+abbrev pub literals_told : Result Constraint Fault → Literals
+literals_told (Ok c) = good_literals c
+literals_told (Err fault) = refused_literals (number fault)

@@ -1,26 +1,20 @@
 -- The code's way of loading: a field's step gives a read point or a name alone, read points and outputs are kept in lists of their own beside their
 -- names and the list of which read points are pasts, and the set is made of them.
 -- Assumes nothing.
-use Rattle.std.specs.Prelude.{ℕ, ◌+◌, ◌≡◌, Bool, false, cond, not, List, map, ltb, eqb, length, get_or, drop}
+use Rattle.std.specs.Prelude.{ℕ, ◌+◌, ◌≡◌, Bool, false, cond, not, List, Result, Ok, Err, map, ltb, eqb, length, get_or, drop}
 use Rattle.scan.specs.declared.set.ReadPoint.{ReadPoint}
 use Rattle.scan.specs.declared.set.OutputPoint.{OutputPoint}
 use Rattle.scan.specs.declared.set.Constraint.{Constraint}
 use Rattle.scan.specs.declared.set.Set.{Set}
-use Rattle.scan.specs.Set.{zero_name, zero_read, with_counts, with_reads, with_outputs, with_constraints, with_rest}
+use Rattle.scan.specs.Set.{zero_set, with_counts, with_reads, with_outputs, with_constraints, with_rest}
 use Rattle.scan.specs.Shape.{is_sensor}
-use Rattle.header.specs.declared.header.Header.{Header}
-use Rattle.header.specs.declared.header.Header.TheVariants.{Refused as Stopped, Field}
-use Rattle.header.specs.Header.{header_of, body_of}
-use Rattle.header.specs.declared.numbers.Taken.{Taken}
-use Rattle.header.specs.declared.numbers.Taken.TheVariants.{Refused as Denied, Good}
-use Rattle.loader.specs.declared.point.NameField.{NameField}
-use Rattle.loader.specs.declared.point.ReadField.{ReadField}
-use Rattle.loader.specs.declared.step.ReadStep.{ReadStep}
-use Rattle.loader.specs.declared.step.NameStep.{NameStep}
-use Rattle.loader.specs.declared.rest.RestStep.{RestStep}
-use Rattle.loader.specs.declared.loader.Progress.{Progress}
-use Rattle.loader.specs.declared.loader.Progress.TheVariants.{At, Refused}
-use Rattle.loader.specs.Load.{Loading, refusal, going_on, of_counts, rest_word, rest_good}
+use Rattle.header.specs.declared.numbers.Fault.{Fault}
+use Rattle.header.specs.declared.numbers.Refusal.{Refusal}
+use Rattle.header.specs.Fault.{number, Taken, Refused as Denied, Good}
+use Rattle.header.specs.Header.{Header, Refused as Stopped, Field, header_of, body_of}
+use Rattle.loader.specs.declared.loader.Loaded.{Loaded}
+use Rattle.loader.specs.declared.loader.LoadAnswer.TheVariants.{Loaded as WasLoaded, Refused as WasRefused}
+use Rattle.loader.specs.Load.{Progress, At, Refused, Loading, NameField, ReadField, refusal, going_on, of_counts, rest_word, rest_good}
 
 -- ---- pasts
 
@@ -32,47 +26,67 @@ not_past pasts k = not (get_or pasts k false)
 abbrev pub Pasts : List Bool → List ReadPoint → Type 0
 Pasts pasts reads = pasts ≡ map (λ (p : ReadPoint). not (is_sensor p.kind)) reads
 
+-- ---- what the code's answers say: a fault is told by its number
+
+-- of a body
+abbrev pub given : {A : Type 0} → Result A Fault → Result A ℕ
+given (Ok x) = Ok x
+given (Err fault) = Err (number fault)
+
+-- a step over a field: what the field gives and the place behind it; or a refusal's number and the field's place
+abbrev pub Step : Type 0 → Type 0
+Step A = Result (A × ℕ) (ℕ × ℕ)
+
+-- of a step
+abbrev pub numbered : {A : Type 0} → Result (A × ℕ) Refusal → Step A
+numbered (Ok x) = Ok x
+numbered (Err r) = Err (number r.fault, r.offset)
+
+-- of the end
+abbrev pub end_told : Result ℕ Refusal → Progress
+end_told (Ok at) = At at
+end_told (Err r) = Refused (number r.fault) r.offset
+
+-- of a whole file
+abbrev pub set_told : Result Set Refusal → Loaded
+set_told (Ok set) = record { answer = WasLoaded; set = set }
+set_told (Err r) = record { answer = WasRefused (number r.fault) r.offset; set = zero_set }
+
+-- ---- what the definitions give, without what stands beside a refusal
+
+-- a value, if it is taken
+abbrev pub if_taken : {A : Type 0} → Taken → A → Result A ℕ
+if_taken Good x = Ok x
+if_taken (Denied number) x = Err number
+
+-- a name
+abbrev pub name_given : NameField → Result (List ℕ) ℕ
+name_given f = if_taken f.taken f.name
+
+-- a read point
+abbrev pub read_given : ReadField → Result ReadPoint ℕ
+read_given f = if_taken f.taken f.read
+
+-- the rest word in a body, of a set of n outputs
+abbrev pub rest_given : ℕ → List ℕ → Result ℕ ℕ
+rest_given n body = if_taken (rest_good (rest_word body) n) (rest_word body)
+
 -- ---- steps
 
--- the place behind a body, or its refusal
-abbrev pub place_behind : ℕ → ℕ → Taken → Progress
-place_behind at behind (Denied number) = Refused number at
-place_behind at behind Good = At behind
+-- by what a body gives
+abbrev pub step_done : {A : Type 0} → ℕ → ℕ → Result A ℕ → Step A
+step_done at behind (Ok x) = Ok (x, behind)
+step_done at behind (Err number) = Err (number, at)
 
--- a refused read point
-abbrev pub refused_read : ℕ → ℕ → ReadStep
-refused_read number at = record { progress = Refused number at; read = zero_read }
+-- by the field's header, and then by what its body gives
+abbrev pub step_by : {A : Type 0} → List ℕ → ℕ → (List ℕ → Result A ℕ) → Header → Step A
+step_by s at got (Stopped number) = Err (number, at)
+step_by s at got (Field tag len) = step_done at (at + 3 + len) (got (body_of (drop at s) len))
 
--- the step over a read point's field, by its header
-abbrev pub read_step : List ℕ → ℕ → (List ℕ → ReadField) → Header → ReadStep
-read_step s at got (Stopped number) = refused_read number at
-read_step s at got (Field tag len) =
-    record { progress = place_behind at (at + 3 + len) (got (body_of (drop at s) len)).taken; read = (got (body_of (drop at s) len)).read }
-
--- a refused name
-abbrev pub refused_name : ℕ → ℕ → NameStep
-refused_name number at = record { progress = Refused number at; name = zero_name }
-
--- the step over an output's field
-abbrev pub name_step : List ℕ → ℕ → (List ℕ → NameField) → Header → NameStep
-name_step s at got (Stopped number) = refused_name number at
-name_step s at got (Field tag len) =
-    record { progress = place_behind at (at + 3 + len) (got (body_of (drop at s) len)).taken; name = (got (body_of (drop at s) len)).name }
-
--- a refused rest word
-abbrev pub refused_rest : ℕ → ℕ → RestStep
-refused_rest number at = record { progress = Refused number at; rest = 0 }
-
--- the step over the rest word's field
-abbrev pub rest_step : List ℕ → ℕ → ℕ → Header → RestStep
-rest_step s at n (Stopped number) = refused_rest number at
-rest_step s at n (Field tag len) =
-    record { progress = place_behind at (at + 3 + len) (rest_good (rest_word (body_of (drop at s) len)) n); rest = rest_word (body_of (drop at s) len) }
-
--- that step, if the field stands here
-unfoldable pub rest_place : List ℕ → ℕ → ℕ → RestStep
+-- over the rest word's field, if it stands here
+unfoldable pub rest_place : List ℕ → ℕ → ℕ → Step ℕ
 rest_place s at n =
-    let given = rest_step s at n (header_of (drop at s) 6 0) in cond (eqb (get_or (drop at s) 0 0) 6) given (record { progress = At at; rest = 0 })
+    let step = step_by s at (rest_given n) (header_of (drop at s) 6 0) in cond (eqb (get_or (drop at s) 0 0) 6) step (Ok (0, at))
 
 -- ---- the set so far
 
@@ -80,6 +94,15 @@ rest_place s at n =
 abbrev pub reached : Progress → Set → Loading
 reached (At at) set = going_on at set
 reached (Refused number at) set = refusal number at
+
+-- the same by a step, whose field gives that set
+abbrev pub brought : {A : Type 0} → Step A → (A → Set) → Loading
+brought (Ok x) made = going_on x.1 (made x.0)
+brought (Err e) made = refusal e.0 e.1
+
+-- and by the code's answer
+abbrev pub reached_by : {A : Type 0} → Result (A × ℕ) Refusal → (A → Set) → Loading
+reached_by x made = brought (numbered x) made
 
 -- the place behind the end, or 12
 abbrev pub end_place : List ℕ → ℕ → Progress

@@ -3,8 +3,7 @@ use mathlib.Core.Path.{◌≡◌, sym, ◌∙◌, ap₂}
 use Prim.Native.Nat.{◌+◌, ◌*◌}
 use native.Mathlib.Omega.{arith}
 use lib.ListN.{drop, length-drop}
-use Rattle.header.specs.Header.{body_length}
-use Rattle.header.specs.declared.header.RawField.TheVariants.{Field}
+use Rattle.header.specs.Header.{whole, body_length}
 use Rattle.header.proofs.HeaderLaws.{cut_header, cut_body, not_cut, raw_cut, raw_field, tag_at, length_at}
 use Rattle.header.proofs.header.field_at.Goals as goal
 use Rattle.header.proofs.header.field_at.Goals.{After-wide-low}
@@ -51,4 +50,4 @@ returns c =
     let l = length-drop a.at a.s.now in
     let e = said (goal.at.returns c).After-wide-low in
     sym (raw_field s (not_cut s (omega (arith, l, c)) (omega (arith, l, e, c)))
-    ∙ ap₂ Field (tag_at a.s.now a.at) e)
+    ∙ ap₂ whole (tag_at a.s.now a.at) e)

@@ -18,12 +18,12 @@ unnamed c =
 pub returns-then-low : goal.returns-then-low
 returns-then-low c =
     let low : c.both-low.result ≡ true = c.if-low.true in
-    c.refused_literals.ensures ∙ sym (simp (unnamed (goal.at.returns-then-low c).After-both-low ∙ low))
+    sym (simp (unnamed (goal.at.returns-then-low c).After-both-low ∙ low))
 
 pub returns-then-bare : goal.returns-then-bare
 returns-then-bare c =
     let e = c in
-    c.refused_literals-then-bare.ensures ∙ sym (simp (unnamed (goal.at.returns-then-bare c).After-both-low ∙ e.if-low.false, c.if-bare.true-raw))
+    sym (simp (unnamed (goal.at.returns-then-bare c).After-both-low ∙ e.if-low.false, c.if-bare.true-raw))
 
 pub returns : goal.returns
 returns c =

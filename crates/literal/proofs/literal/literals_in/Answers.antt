@@ -81,8 +81,7 @@ returns-then-not-is_literal c =
     let q = c in
     let d = q in
     let l = d.loop-i in
-    c.refused_literals.ensures
-    ∙ sym (told (goal.at.returns-then-not-is_literal c).After-said_at-l ∙ not_literal d.args.wide c.least-reads.result c.least-outputs.result l.next (of_word l.word l.ranks) q.said_at-l.result _ (sym c.is_literal.ensures ∙ c.if-not-is_literal.true))
+    sym (told (goal.at.returns-then-not-is_literal c).After-said_at-l ∙ not_literal d.args.wide c.least-reads.result c.least-outputs.result l.next (of_word l.word l.ranks) q.said_at-l.result _ (sym c.is_literal.ensures ∙ c.if-not-is_literal.true))
     ∙ whole (goal.at.returns-then-not-is_literal c).At-loop-i
 
 pub place_of-place-requires : goal.place_of-place-requires
@@ -94,8 +93,7 @@ returns-then-place-next c =
     let q = p in
     let d = q in
     let l = d.loop-i in
-    c.refused_literals-then-place-next.ensures
-    ∙ sym (told (goal.at.returns-then-place-next c).After-said_at-l ∙ not_rising d.args.wide c.least-reads.result c.least-outputs.result l.next (of_word l.word l.ranks) q.said_at-l.result _ (good (goal.at.returns-then-place-next c).Else-not-is_literal) (rw p.place_of-place.ensures at c.if-place-next.true))
+    sym (told (goal.at.returns-then-place-next c).After-said_at-l ∙ not_rising d.args.wide c.least-reads.result c.least-outputs.result l.next (of_word l.word l.ranks) q.said_at-l.result _ (good (goal.at.returns-then-place-next c).Else-not-is_literal) (rw p.place_of-place.ensures at c.if-place-next.true))
     ∙ whole (goal.at.returns-then-place-next c).At-loop-i
 
 pub with_literal-word-requires : goal.with_literal-word-requires

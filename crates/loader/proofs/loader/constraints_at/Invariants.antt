@@ -10,11 +10,11 @@ use Rattle.loader.specs.Load.{constraints_from}
 use Rattle.loader.specs.way.Load.{rested_set, whole_set}
 use Rattle.loader.proofs.loader.constraints_at.Given as goal
 
-abbrev pub invariant-loop-number : goal.invariant-loop-number
-invariant-loop-number l =
+abbrev pub invariant-loop-front : goal.invariant-loop-front
+invariant-loop-front l =
     (l.m ≤ most_constraints)
     × ((rest : ℕ) (reads : List ReadPoint) (outputs : List OutputPoint)
-    → constraints_from l.s (suc most_constraints) l.at (rested_set l.r l.n rest reads outputs) ≡ constraints_from l.s (suc most_constraints - l.m) l.next (whole_set l.r l.n l.m rest reads outputs l.constraints))
+    → constraints_from l.s (suc most_constraints) l.at (rested_set l.r l.n rest reads outputs) ≡ constraints_from l.s (suc most_constraints - l.m) l.next (whole_set l.r l.n l.m rest reads outputs l.list))
 
-abbrev pub decreases-loop-number : goal.decreases-loop-number
-decreases-loop-number l = suc most_constraints - l.m
+abbrev pub decreases-loop-front : goal.decreases-loop-front
+decreases-loop-front l = suc most_constraints - l.m

@@ -4,8 +4,7 @@ use mathlib.Core.Bool.{Bool, cond}
 use Prim.Native.Nat.{ℕ, ◌+◌}
 use lib.ListN.{length}
 use borrow.Author.Tests.{lt-ltb, le-ltb}
-use Rattle.loader.specs.declared.loader.Progress.{Progress}
-use Rattle.loader.specs.declared.loader.Progress.TheVariants.{At, Refused}
+use Rattle.loader.specs.Load.{Progress, At, Refused}
 use Rattle.loader.proofs.loader.end_at.Goals as goal
 
 -- the place by whether bytes follow

@@ -2,7 +2,7 @@
 -- whichever read points have the names; the list of names is that of the outputs so far. Assumes nothing.
 use mathlib.Core.Path.{◌≡◌}
 use mathlib.Core.List.{List}
-use Prim.Native.Nat.{◌-◌, ◌≤◌}
+use Prim.Native.Nat.{◌-◌}
 use Rattle.scan.specs.declared.set.ReadPoint.{ReadPoint}
 use Rattle.scan.specs.Set.{with_reads}
 use Rattle.shape.specs.way.Names.{ReadNames}
@@ -13,8 +13,5 @@ use Rattle.loader.proofs.loader.outputs_at.Given as goal
 
 abbrev pub invariant-loop-j : goal.invariant-loop-j
 invariant-loop-j l =
-    (l.j ≤ l.n) × OutputsKnown l.own l.outputs
+    OutputsKnown l.own l.outputs
     × ((reads : List ReadPoint) → ReadNames l.names reads → outputs_from l.s l.n 0 l.at (with_reads (of_counts l.r l.n) reads) ≡ outputs_from l.s (l.n - l.j) l.j l.next (points_set l.r l.n reads l.outputs))
-
-abbrev pub decreases-loop-j : goal.decreases-loop-j
-decreases-loop-j l = l.n - l.j

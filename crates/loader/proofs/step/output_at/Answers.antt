@@ -1,67 +1,45 @@
 -- `loader::step::output_at` meets its contract: by the field's header, then by its body. Assumes nothing.
-use mathlib.Core.Path.{◌≡◌, sym, ◌∙◌, ap}
 use mathlib.Core.List.{List}
 use Prim.Native.Nat.{ℕ, ◌+◌, ◌≤◌, min}
 use native.Mathlib.Omega.{arith}
-use lib.ListN.{length, drop}
+use lib.ListN.{length}
+use Rattle.std.specs.Prelude.{Result, Ok, Err}
 use Rattle.scan.specs.Set.{most_reads, most_outputs}
-use Rattle.header.specs.declared.header.Header.TheVariants.{Field}
-use Rattle.header.specs.Header.{header_of}
-use Rattle.shape.specs.way.Names.{name_used}
-use Rattle.loader.specs.declared.point.NameField.{NameField}
 use Rattle.loader.specs.Load.{name_field}
-use Rattle.loader.specs.way.Load.{refused_name, name_step}
-use Rattle.header.proofs.HeaderLaws.{field_within, front_place, front_there, front_header}
-use Rattle.loader.proofs.LoadWayLaws.{field_step}
+use Rattle.loader.specs.way.Load.{name_given}
+use Rattle.header.proofs.HeaderLaws.{front_within}
+use Rattle.header.specs.Fault.{number}
+use Rattle.shape.specs.way.Names.{name_used}
+use Rattle.loader.proofs.LoadWayLaws.{step_taken}
 use Rattle.loader.proofs.step.output_at.Goals as goal
-use Rattle.loader.proofs.step.output_at.Goals.{After-front_at-front, In-Field}
+use Rattle.loader.proofs.step.output_at.Goals.{In_ok-front}
 
 -- what the body gives
-abbrev got : After-front_at-front → List ℕ → NameField
-got c = let a = c.args in name_field (name_used a.reads.now (min a.r most_reads) a.outputs.now (min a.j most_outputs))
+abbrev got : In_ok-front → List ℕ → Result (List ℕ) ℕ
+got c body = let a = c.args in name_given (name_field (name_used a.reads.now (min a.r most_reads) a.outputs.now (min a.j most_outputs)) body)
 
--- the field is at its place
-place : (c : After-front_at-front) → c.front_at-front.result.at ≡ c.args.at
-place c = let a = c.args in front_place a.s.now a.at 3 0 c.front_at-front.result c.front_at-front.ensures
-
--- what its header tells
-here : (c : In-Field) → let f = c in
-    header_of (drop f.front_at-front.result.at f.args.s.now) 3 0 ≡ Field c.in-Field.field-0 c.in-Field.len
-here c =
-    let f = c in
-    let a = f.args in
-    front_header a.s.now a.at 3 0 f.front_at-front.result f.front_at-front.ensures ∙ c.in-Field.is
-
-whole : (c : In-Field) → let f = c in
-    f.front_at-front.result.at + 3 + c.in-Field.len ≤ length f.args.s.now
-whole c = field_within _ _ 3 0 _ _ (here c)
+-- the field is within the file
+whole : (c : In_ok-front) → c.in_ok-front.front.at + 3 + c.in_ok-front.front.len ≤ length c.args.s.now
+whole c = front_within c.args.s.now c.args.at 3 0 c.in_ok-front.front c.in_ok-front.ensures
 
 pub overflow_add-behind : goal.overflow_add-behind
-overflow_add-behind c = omega (arith, whole (goal.at.overflow_add-behind c).In-Field, c.well_formed)
+overflow_add-behind c = omega (arith, whole (goal.at.overflow_add-behind c).In_ok-front, c.well_formed)
 
-pub overflow_add-behind-in-Field : goal.overflow_add-behind-in-Field
-overflow_add-behind-in-Field c = omega (arith, whole (goal.at.overflow_add-behind-in-Field c).In-Field, c.well_formed)
+pub overflow_add-behind-2 : goal.overflow_add-behind-2
+overflow_add-behind-2 c = omega (arith, whole (goal.at.overflow_add-behind-2 c).In_ok-front, c.well_formed)
 
-pub overflow_add-here : goal.overflow_add-here
-overflow_add-here c = omega (arith, whole (goal.at.overflow_add-here c).In-Field, c.well_formed)
+pub overflow_add-offset : goal.overflow_add-offset
+overflow_add-offset c = omega (arith, whole (goal.at.overflow_add-offset c).In_ok-front, c.well_formed)
 
 pub slice_bounds-name_of-end : goal.slice_bounds-name_of-end
-slice_bounds-name_of-end c = whole (goal.at.slice_bounds-name_of-end c).In-Field
+slice_bounds-name_of-end c = whole (goal.at.slice_bounds-name_of-end c).In_ok-front
 
-pub returns-in-Refused : goal.returns-in-Refused
-returns-in-Refused c =
-    let k = c in
-    let f = k in
-    let a = f.args in
-    c.refused_name.ensures ∙ ap (refused_name k.in-Refused.number) (place (goal.at.returns-in-Refused c).After-front_at-front)
-    ∙ sym (ap (name_step a.s.now a.at (got (goal.at.returns-in-Refused c).After-front_at-front)) (front_there a.s.now a.at 3 0 f.front_at-front.result f.front_at-front.ensures ∙ k.in-Refused.is))
+pub returns-in-Ok : goal.returns-in-Ok
+returns-in-Ok c =
+    let a = c.args in
+    step_taken a.s.now a.at 3 (got (goal.at.returns-in-Ok c).In_ok-front) c.in_ok-front.front c.in_ok-front.ensures (Ok c.in-Ok.name) c.in-Ok.ensures
 
-pub returns-in-Field : goal.returns-in-Field
-returns-in-Field c =
-    let g = c in
-    let k = g in
-    let f = k in
-    let a = f.args in
-    field_step (λ (x : NameField). x.taken) (λ p x. record { progress = p; name = x.name }) a.s.now a.at f.front_at-front.result.at k.in-Field.len (got (goal.at.returns-in-Field c).After-front_at-front)
-    g.name_of-f.result c.place_behind.result (place (goal.at.returns-in-Field c).After-front_at-front) g.name_of-f.ensures c.place_behind.ensures
-    ∙ sym (ap (name_step a.s.now a.at (got (goal.at.returns-in-Field c).After-front_at-front)) (front_there a.s.now a.at 3 0 f.front_at-front.result f.front_at-front.ensures ∙ k.in-Field.is))
+pub returns-in-Err : goal.returns-in-Err
+returns-in-Err c =
+    let a = c.args in
+    step_taken a.s.now a.at 3 (got (goal.at.returns-in-Err c).In_ok-front) c.in_ok-front.front c.in_ok-front.ensures (Err (number c.in-Err.fault)) c.in-Err.ensures

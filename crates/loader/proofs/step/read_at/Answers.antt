@@ -1,77 +1,55 @@
 -- `loader::step::read_at` meets its contract: by the field's header, then by its body. Assumes nothing.
-use mathlib.Core.Path.{◌≡◌, sym, ◌∙◌, ap}
 use mathlib.Core.List.{List}
 use Prim.Native.Nat.{ℕ, ◌+◌, ◌≤◌, min}
 use native.Mathlib.Omega.{arith}
-use lib.ListN.{length, drop}
+use lib.ListN.{length}
+use Rattle.std.specs.Prelude.{Result, Ok, Err}
+use Rattle.scan.specs.declared.set.ReadPoint.{ReadPoint}
 use Rattle.scan.specs.Set.{most_reads}
-use Rattle.header.specs.declared.header.Header.TheVariants.{Field}
-use Rattle.header.specs.Header.{header_of}
-use Rattle.shape.specs.way.Names.{name_used}
-use Rattle.loader.specs.declared.point.ReadField.{ReadField}
 use Rattle.loader.specs.Load.{read_field}
-use Rattle.loader.specs.way.Load.{not_past, refused_read, read_step}
-use Rattle.header.proofs.HeaderLaws.{field_within, front_place, front_there, front_header, read_length}
+use Rattle.loader.specs.way.Load.{not_past, read_given}
+use Rattle.header.proofs.HeaderLaws.{front_header, front_within, read_length}
 use Rattle.loader.proofs.LoadLaws.{body_long}
-use Rattle.loader.proofs.LoadWayLaws.{field_step}
+use Rattle.header.specs.Fault.{number}
+use Rattle.shape.specs.way.Names.{name_used}
+use Rattle.loader.proofs.LoadWayLaws.{step_taken}
 use Rattle.loader.proofs.step.read_at.Goals as goal
-use Rattle.loader.proofs.step.read_at.Goals.{After-front_at-front, In-Field}
+use Rattle.loader.proofs.step.read_at.Goals.{In_ok-front}
 
 -- what the body gives
-abbrev got : After-front_at-front → List ℕ → ReadField
-got c = let a = c.args in read_field a.n (not_past a.pasts.now) (name_used a.reads.now (min a.i most_reads) a.outputs.now 0) a.i
+abbrev got : In_ok-front → List ℕ → Result ReadPoint ℕ
+got c body = let a = c.args in read_given (read_field a.n (not_past a.pasts.now) (name_used a.reads.now (min a.i most_reads) a.outputs.now 0) a.i body)
 
--- the field is at its place
-place : (c : After-front_at-front) → c.front_at-front.result.at ≡ c.args.at
-place c = let a = c.args in front_place a.s.now a.at 2 0 c.front_at-front.result c.front_at-front.ensures
-
--- what its header tells
-here : (c : In-Field) → let f = c in
-    header_of (drop f.front_at-front.result.at f.args.s.now) 2 0 ≡ Field c.in-Field.field-0 c.in-Field.len
-here c =
-    let f = c in
-    let a = f.args in
-    front_header a.s.now a.at 2 0 f.front_at-front.result f.front_at-front.ensures ∙ c.in-Field.is
-
-whole : (c : In-Field) → let f = c in
-    f.front_at-front.result.at + 3 + c.in-Field.len ≤ length f.args.s.now
-whole c = field_within _ _ 2 0 _ _ (here c)
+-- the field is within the file
+whole : (c : In_ok-front) → c.in_ok-front.front.at + 3 + c.in_ok-front.front.len ≤ length c.args.s.now
+whole c = front_within c.args.s.now c.args.at 2 0 c.in_ok-front.front c.in_ok-front.ensures
 
 pub overflow_add-behind : goal.overflow_add-behind
-overflow_add-behind c = omega (arith, whole (goal.at.overflow_add-behind c).In-Field, c.well_formed)
+overflow_add-behind c = omega (arith, whole (goal.at.overflow_add-behind c).In_ok-front, c.well_formed)
 
-pub overflow_add-behind-in-Field : goal.overflow_add-behind-in-Field
-overflow_add-behind-in-Field c = omega (arith, whole (goal.at.overflow_add-behind-in-Field c).In-Field, c.well_formed)
+pub overflow_add-behind-2 : goal.overflow_add-behind-2
+overflow_add-behind-2 c = omega (arith, whole (goal.at.overflow_add-behind-2 c).In_ok-front, c.well_formed)
 
-pub overflow_add-here : goal.overflow_add-here
-overflow_add-here c = omega (arith, whole (goal.at.overflow_add-here c).In-Field, c.well_formed)
+pub overflow_add-offset : goal.overflow_add-offset
+overflow_add-offset c = omega (arith, whole (goal.at.overflow_add-offset c).In_ok-front, c.well_formed)
 
 pub slice_bounds-read_field-end : goal.slice_bounds-read_field-end
-slice_bounds-read_field-end c = whole (goal.at.slice_bounds-read_field-end c).In-Field
+slice_bounds-read_field-end c = whole (goal.at.slice_bounds-read_field-end c).In_ok-front
 
-pub read_field-f-requires : goal.read_field-f-requires
-read_field-f-requires c =
-    let k = c in
-    let f = k in
-    let s = f in
-    let t = body_long s.args.s.now f.front_at-front.result.at k.in-Field.len (whole (goal.at.read_field-f-requires c).In-Field) in
-    let b = read_length _ _ _ (here (goal.at.read_field-f-requires c).In-Field) in
-    (omega (arith, t, b), s.requires)
+pub read_field-requires : goal.read_field-requires
+read_field-requires c =
+    let f = c.in_ok-front.front in
+    let a = c.args in
+    let t = body_long a.s.now f.at f.len (whole (goal.at.read_field-requires c).In_ok-front) in
+    let b = read_length _ _ _ (front_header a.s.now a.at 2 0 f c.in_ok-front.ensures) in
+    (omega (arith, t, b), c.requires)
 
-pub returns-in-Refused : goal.returns-in-Refused
-returns-in-Refused c =
-    let k = c in
-    let f = k in
-    let a = f.args in
-    c.refused_read.ensures ∙ ap (refused_read k.in-Refused.number) (place (goal.at.returns-in-Refused c).After-front_at-front)
-    ∙ sym (ap (read_step a.s.now a.at (got (goal.at.returns-in-Refused c).After-front_at-front)) (front_there a.s.now a.at 2 0 f.front_at-front.result f.front_at-front.ensures ∙ k.in-Refused.is))
+pub returns-in-Ok : goal.returns-in-Ok
+returns-in-Ok c =
+    let a = c.args in
+    step_taken a.s.now a.at 2 (got (goal.at.returns-in-Ok c).In_ok-front) c.in_ok-front.front c.in_ok-front.ensures (Ok c.in-Ok.read) c.in-Ok.ensures
 
-pub returns-in-Field : goal.returns-in-Field
-returns-in-Field c =
-    let g = c in
-    let k = g in
-    let f = k in
-    let a = f.args in
-    field_step (λ (x : ReadField). x.taken) (λ p x. record { progress = p; read = x.read }) a.s.now a.at f.front_at-front.result.at k.in-Field.len (got (goal.at.returns-in-Field c).After-front_at-front)
-    g.read_field-f.result c.place_behind.result (place (goal.at.returns-in-Field c).After-front_at-front) g.read_field-f.ensures c.place_behind.ensures
-    ∙ sym (ap (read_step a.s.now a.at (got (goal.at.returns-in-Field c).After-front_at-front)) (front_there a.s.now a.at 2 0 f.front_at-front.result f.front_at-front.ensures ∙ k.in-Field.is))
+pub returns-in-Err : goal.returns-in-Err
+returns-in-Err c =
+    let a = c.args in
+    step_taken a.s.now a.at 2 (got (goal.at.returns-in-Err c).In_ok-front) c.in_ok-front.front c.in_ok-front.ensures (Err (number c.in-Err.fault)) c.in-Err.ensures
