@@ -49,12 +49,10 @@ fn is_same(a: &[u8], b: &[u8]) -> bool {
         return false;
     }
     let mut same = true;
-    let mut i: usize = 0;
-    while i < a.len() {
+    for i in 0..a.len() {
         if a[i] != b[i] {
             same = false;
         }
-        i = i + 1;
     }
     same
 }

@@ -39,11 +39,9 @@ pub fn word_draft(word: [u8; 8], len: usize) -> Draft
     ensures { (result.len ≡ len) × (draft_bytes result ≡ take len word) }
 {
     let mut t = empty_draft();
-    let mut k: usize = 0;
-    while k < len {
+    for k in 0..len {
         let c = word[k];
         t = with_byte(t, c);
-        k = k + 1;
     }
     t
 }

@@ -60,10 +60,8 @@ fn put_draft(buf: &mut [u8], draft: Draft)
     ensures { buf.new ≡ put_at buf.old 0 (draft_bytes draft) }
 {
     let len = draft.len;
-    let mut i: usize = 0;
-    while i < len {
+    for i in 0..len {
         buf[i] = draft.bytes[i];
-        i = i + 1;
     }
 }
 

@@ -36,10 +36,8 @@ pub fn put_bytes(buf: &mut [u8], at: usize, bytes: &[u8]) -> usize
     ensures { Within buf.old at bytes.now buf.new result }
 {
     let mut place = at;
-    let mut k: usize = 0;
-    while k < bytes.len() {
+    for k in 0..bytes.len() {
         place = put_byte(&mut *buf, place, bytes[k]);
-        k = k + 1;
     }
     place
 }
