@@ -9,8 +9,8 @@ use scan::{
     Constraint, Kind, MOST_CONSTRAINTS, MOST_OUTPUTS, MOST_READS, NAME_PLACES, OutputPoint,
     ReadPoint, Set,
 };
+use shape::PutError;
 use std::io;
-use writer::Written;
 
 // The bytes of a set, of a read point and of a constraint, and where the read points, the outputs and the constraints begin.
 pub const SET_BYTES: usize = 1840;
@@ -145,7 +145,7 @@ fn print_file_of(rt: &impl Print, set: Set) -> io::Result<()> {
     let written = writer::write(set, &mut buf);
     print_written(rt, b'/', written)?;
     match written {
-        Written::BadSet => Ok(()),
+        Err(PutError::BadSet) => Ok(()),
         _ => print_sum(rt, b':', &buf),
     }
 }

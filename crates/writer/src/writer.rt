@@ -10,30 +10,22 @@ use super::field::{
 };
 use header::TAG_END;
 use scan::{Constraint, MOST_CONSTRAINTS, MOST_OUTPUTS, MOST_READS, OutputPoint, ReadPoint, Set};
-use shape::{name_length, well_formed};
+use shape::{PutError, name_length, well_formed};
 
-// The length of the file; or that the set is not well formed; or the length needed, where the buffer is shorter.
-#[derive(Clone, Copy)]
-pub enum Written {
-    Wrote(usize),
-    BadSet,
-    Short(usize),
-}
-
-// The file of the set at the front of the buffer, later bytes untouched; on a refusal the buffer is untouched.
-pub fn write(set: Set, buf: &mut [u8]) -> Written
+// The file of the set at the front of the buffer, later bytes untouched, and its length; on a refusal the buffer is untouched.
+pub fn write(set: Set, buf: &mut [u8]) -> Result<usize, PutError>
     ensures value { result ≡ write_answer set (length buf.old) }
     ensures buf_after { buf.new ≡ buffer_after set buf.old }
 {
     if !well_formed(set) {
-        return Written::BadSet;
+        return Err(PutError::BadSet);
     }
     let needed = file_length(set);
     if buf.len() < needed {
-        return Written::Short(needed);
+        return Err(PutError::Short(needed));
     }
     put_file(buf, set);
-    Written::Wrote(needed)
+    Ok(needed)
 }
 
 // The length of the file.

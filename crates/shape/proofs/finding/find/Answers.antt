@@ -8,8 +8,10 @@ use Rattle.scan.specs.declared.set.Set.{Set}
 use Rattle.scan.specs.Names.{length_ok}
 use Rattle.scan.specs.Shape.{well_formed}
 use Rattle.shape.specs.declared.names.Spelled.{Spelled}
-use Rattle.shape.specs.declared.finding.Found.{Found}
-use Rattle.shape.specs.declared.finding.Found.TheVariants.{Unknown}
+use Rattle.std.specs.Prelude.{Result, Err}
+use Rattle.shape.specs.declared.finding.Point.{Point}
+use Rattle.shape.specs.declared.finding.FindError.{FindError}
+use Rattle.shape.specs.declared.finding.FindError.TheVariants.{Unknown}
 use Rattle.shape.specs.Spelling.{spelling}
 use Rattle.shape.specs.Finding.{find_padded, find_of}
 use Rattle.scan.proofs.ShapeLaws.{formed_counts}
@@ -26,10 +28,10 @@ fit : (c : Else-not-is_length_ok) → length_ok c.args.name.now ≡ true
 fit c = sym c.is_length_ok.ensures ∙ c.if-not-is_length_ok.false
 
 module _ (s : Set) (bytes : List ℕ) (w : well_formed s ≡ true) (l : length_ok bytes ≡ true) (x : Spelled) (e : x ≡ spelling bytes) where
-  unspelt : x.good ≡ false → Unknown ≡ find_of s bytes
+  unspelt : x.good ≡ false → Err Unknown ≡ find_of s bytes
   unspelt g = find_unspelt s bytes w l (ap (λ (y : Spelled). y.good) (sym e) ∙ g)
 
-  spelt : (r : Found) → x.good ≡ true → r ≡ find_padded s x.name → r ≡ find_of s bytes
+  spelt : (r : Result Point FindError) → x.good ≡ true → r ≡ find_padded s x.name → r ≡ find_of s bytes
   spelt r g f = f ∙ ap (λ (y : Spelled). find_padded s y.name) e ∙ find_spelt s bytes w l (ap (λ (y : Spelled). y.good) (sym e) ∙ g)
 
 pub returns-then-not-well_formed : goal.returns-then-not-well_formed
