@@ -1,27 +1,25 @@
 // What operations answer, as items: document 01's number behind a space, and the values, each behind a mark.
 use super::printing::{end_line, print_behind};
 use machine::ScanAnswer;
-use shape::Found;
+use shape::{FindError, Point, PutError};
 use std::io;
-use text::TextPut;
 use verdict::Verdict;
-use writer::Written;
 
-pub fn print_written(rt: &impl Print, mark: u8, written: Written) -> io::Result<()> {
+pub fn print_written(rt: &impl Print, mark: u8, written: Result<usize, PutError>) -> io::Result<()> {
     print_behind(rt, b' ', writer::number_of(written) as usize)?;
     match written {
-        Written::Wrote(length) => print_behind(rt, mark, length),
-        Written::Short(needed) => print_behind(rt, mark, needed),
-        Written::BadSet => Ok(()),
+        Ok(length) => print_behind(rt, mark, length),
+        Err(PutError::Short(needed)) => print_behind(rt, mark, needed),
+        Err(PutError::BadSet) => Ok(()),
     }
 }
 
-pub fn print_text_put(rt: &impl Print, mark: u8, put: TextPut) -> io::Result<()> {
+pub fn print_text_put(rt: &impl Print, mark: u8, put: Result<usize, PutError>) -> io::Result<()> {
     print_behind(rt, b' ', text::number_of(put) as usize)?;
     match put {
-        TextPut::Put(length) => print_behind(rt, mark, length),
-        TextPut::Short(needed) => print_behind(rt, mark, needed),
-        TextPut::BadSet => Ok(()),
+        Ok(length) => print_behind(rt, mark, length),
+        Err(PutError::Short(needed)) => print_behind(rt, mark, needed),
+        Err(PutError::BadSet) => Ok(()),
     }
 }
 
@@ -57,11 +55,11 @@ pub fn print_scan(rt: &impl Print, answer: ScanAnswer) -> io::Result<()> {
     }
 }
 
-pub fn print_found(rt: &impl Print, found: Found) -> io::Result<()> {
+pub fn print_found(rt: &impl Print, found: Result<Point, FindError>) -> io::Result<()> {
     match found {
-        Found::Read(k) => print_item(rt, b'R', k),
-        Found::Output(k) => print_item(rt, b'O', k),
-        _ => print_item(rt, b'!', shape::number_of(found) as usize),
+        Ok(Point::Read(k)) => print_item(rt, b'R', k),
+        Ok(Point::Output(k)) => print_item(rt, b'O', k),
+        Err(_) => print_item(rt, b'!', shape::number_of(found) as usize),
     }
 }
 

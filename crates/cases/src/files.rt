@@ -12,7 +12,6 @@ use scan::Set;
 use start::Started;
 use std::io;
 use verdict::Verdict;
-use writer::Written;
 
 // What the verdict program reads of a file.
 const MOST_JUDGED: usize = 8192;
@@ -49,12 +48,10 @@ fn is_same(a: &[u8], b: &[u8]) -> bool {
         return false;
     }
     let mut same = true;
-    let mut i: usize = 0;
-    while i < a.len() {
+    for i in 0..a.len() {
         if a[i] != b[i] {
             same = false;
         }
-        i = i + 1;
     }
     same
 }
@@ -75,8 +72,8 @@ fn print_rewritten(rt: &impl Print, set: Set, file: &[u8]) -> io::Result<()> {
     rt.write_all(b"WRITE")?;
     let written = writer::write(set, &mut buf);
     match written {
-        Written::Wrote(length) => print_same(rt, &buf, length, file),
-        _ => {
+        Ok(length) => print_same(rt, &buf, length, file),
+        Err(_) => {
             print_written(rt, b'/', written)?;
             end_line(rt)
         }

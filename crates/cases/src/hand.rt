@@ -3,7 +3,7 @@ use super::answers::{print_verdict, print_written};
 use super::printing::print_behind;
 use machine::ScanAnswer;
 use scan::{Holds, Set, State};
-use shape::Found;
+use shape::Point;
 use std::io;
 
 // What lent bytes hold before a call.
@@ -154,15 +154,15 @@ fn print_judged(rt: &impl Print, set: Set, scratch: &mut [u8], from: usize) -> i
 fn print_found(rt: &impl Print, set: Set, name: &[u8]) -> io::Result<()> {
     let found = shape::find(set, name);
     match found {
-        Found::Read(k) => {
+        Ok(Point::Read(k)) => {
             rt.write_all(b" 0")?;
             print_behind(rt, b' ', k)
         }
-        Found::Output(k) => {
+        Ok(Point::Output(k)) => {
             rt.write_all(b" 1")?;
             print_behind(rt, b' ', k)
         }
-        _ => print_behind(rt, b' ', shape::number_of(found) as usize),
+        Err(_) => print_behind(rt, b' ', shape::number_of(found) as usize),
     }
 }
 

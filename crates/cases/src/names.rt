@@ -32,28 +32,24 @@ fn print_own(rt: &impl Print, set: Set, name: [u8; NAME_PLACES]) -> io::Result<(
 
 fn print_reads(rt: &impl Print, set: Set) -> io::Result<()> {
     let r = set.r;
-    let mut k: usize = 0;
-    while k < MOST_READS {
+    for k in 0..MOST_READS {
         if k < r {
             let p = set.reads[k];
             let name = p.name;
             print_own(rt, set, name)?;
         }
-        k = k + 1;
     }
     Ok(())
 }
 
 fn print_outputs(rt: &impl Print, set: Set) -> io::Result<()> {
     let n = set.n;
-    let mut k: usize = 0;
-    while k < MOST_OUTPUTS {
+    for k in 0..MOST_OUTPUTS {
         if k < n {
             let p = set.outputs[k];
             let name = p.name;
             print_own(rt, set, name)?;
         }
-        k = k + 1;
     }
     Ok(())
 }

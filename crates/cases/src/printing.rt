@@ -32,10 +32,8 @@ fn mix(sum: u32, byte: u8) -> u32 {
 // The sum of bytes, each of which moves those before it.
 fn sum_of(bytes: &[u8]) -> u32 {
     let mut sum: u32 = 0;
-    let mut i: usize = 0;
-    while i < bytes.len() {
+    for i in 0..bytes.len() {
         sum = mix(sum, bytes[i]);
-        i = i + 1;
     }
     sum
 }

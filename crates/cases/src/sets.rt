@@ -9,8 +9,8 @@ use scan::{
     Constraint, Kind, MOST_CONSTRAINTS, MOST_OUTPUTS, MOST_READS, NAME_PLACES, OutputPoint,
     ReadPoint, Set,
 };
+use shape::PutError;
 use std::io;
-use writer::Written;
 
 // The bytes of a set, of a read point and of a constraint, and where the read points, the outputs and the constraints begin.
 pub const SET_BYTES: usize = 1840;
@@ -92,11 +92,9 @@ fn constraint(bytes: &[u8]) -> Constraint {
 fn reads_of(bytes: &[u8]) -> [ReadPoint; MOST_READS] {
     let first = read_point(bytes);
     let mut reads = [first; MOST_READS];
-    let mut k: usize = 0;
-    while k < MOST_READS {
+    for k in 0..MOST_READS {
         let p = read_point(behind(bytes, k * READ_BYTES));
         reads[k] = p;
-        k = k + 1;
     }
     reads
 }
@@ -104,11 +102,9 @@ fn reads_of(bytes: &[u8]) -> [ReadPoint; MOST_READS] {
 fn outputs_of(bytes: &[u8]) -> [OutputPoint; MOST_OUTPUTS] {
     let first = output_point(bytes);
     let mut outputs = [first; MOST_OUTPUTS];
-    let mut k: usize = 0;
-    while k < MOST_OUTPUTS {
+    for k in 0..MOST_OUTPUTS {
         let p = output_point(behind(bytes, k * NAME_PLACES));
         outputs[k] = p;
-        k = k + 1;
     }
     outputs
 }
@@ -116,11 +112,9 @@ fn outputs_of(bytes: &[u8]) -> [OutputPoint; MOST_OUTPUTS] {
 fn constraints_of(bytes: &[u8]) -> [Constraint; MOST_CONSTRAINTS] {
     let first = constraint(bytes);
     let mut constraints = [first; MOST_CONSTRAINTS];
-    let mut i: usize = 0;
-    while i < MOST_CONSTRAINTS {
+    for i in 0..MOST_CONSTRAINTS {
         let c = constraint(behind(bytes, i * CONSTRAINT_BYTES));
         constraints[i] = c;
-        i = i + 1;
     }
     constraints
 }
@@ -151,7 +145,7 @@ fn print_file_of(rt: &impl Print, set: Set) -> io::Result<()> {
     let written = writer::write(set, &mut buf);
     print_written(rt, b'/', written)?;
     match written {
-        Written::BadSet => Ok(()),
+        Err(PutError::BadSet) => Ok(()),
         _ => print_sum(rt, b':', &buf),
     }
 }

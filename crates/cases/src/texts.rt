@@ -3,7 +3,6 @@ use super::answers::print_text_put;
 use super::printing::{end_line, print_behind, print_sum};
 use scan::Set;
 use std::io;
-use text::TextPut;
 
 // Room for the text of any set.
 const MOST_TEXT: usize = 40000;
@@ -35,8 +34,8 @@ pub fn print_text(rt: &impl Print, set: Set) -> io::Result<()> {
     rt.write_all(b"TEXT")?;
     let put = text::put_text(set, &mut buf);
     match put {
-        TextPut::Put(length) => print_front(rt, &buf, length),
-        _ => {
+        Ok(length) => print_front(rt, &buf, length),
+        Err(_) => {
             print_text_put(rt, b'/', put)?;
             end_line(rt)
         }
@@ -48,7 +47,7 @@ pub fn print_text_of(rt: &impl Print, set: Set) -> io::Result<()> {
     let mut buf = [0u8; MOST_TEXT];
     let put = text::put_text(set, &mut buf);
     print_text_put(rt, b'/', put)?;
-    if let TextPut::Put(_) = put {
+    if put.is_ok() {
         print_sum(rt, b':', &buf)?;
     }
     Ok(())

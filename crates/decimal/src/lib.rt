@@ -14,21 +14,29 @@ pub struct Digits {
     pub at: usize,
 }
 
+impl Digits {
+    // The digits alone.
+    pub fn as_slice(&self) -> &[u8]
+        requires { self.now.at ≤ 20 }
+        ensures { result.now ≡ drop self.now.at self.now.bytes }
+    {
+        &self.bytes[self.at..]
+    }
+}
+
 // The decimal digits of a number, from the last to the first.
 pub fn digits_of(n: usize) -> Digits
     ensures { (result.at ≤ 20) × (drop result.at result.bytes ≡ decimal n) × (take result.at result.bytes ≡ replicate result.at 0) }
 {
     let mut bytes = [0u8; MOST_DIGITS];
     bytes[19] = (48 + n % 10) as u8;
-    let mut at: usize = 19;
     let mut rest = n / 10;
-    while at > 0 {
+    for at in (0..MOST_DIGITS - 1).rev() {
         if rest == 0 {
-            return Digits { bytes, at };
+            return Digits { bytes, at: at + 1 };
         }
-        at = at - 1;
         bytes[at] = (48 + rest % 10) as u8;
-        rest = rest / 10;
+        rest /= 10;
     }
-    Digits { bytes, at }
+    Digits { bytes, at: 0 }
 }

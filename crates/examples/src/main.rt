@@ -54,12 +54,10 @@ fn is_same(a: &[u8], b: &[u8]) -> bool {
         return false;
     }
     let mut same = true;
-    let mut i: usize = 0;
-    while i < a.len() {
+    for i in 0..a.len() {
         if a[i] != b[i] {
             same = false;
         }
-        i = i + 1;
     }
     same
 }
@@ -121,12 +119,10 @@ fn say_arguments(rt: &(impl Files + Env + Print), i: usize) -> io::Result<()> {
 }
 
 fn main(rt: HostRuntime) -> io::Result<()> {
-    let mut pair: usize = 0;
-    while pair < MOST_PAIRS {
+    for pair in 0..MOST_PAIRS {
         if has_argument(&rt, pair * 2 + 2) {
             say_arguments(&rt, pair * 2 + 1)?;
         }
-        pair = pair + 1;
     }
     Ok(())
 }

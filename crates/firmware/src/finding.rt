@@ -4,7 +4,7 @@ ghost use Rattle.shape.specs.Told.{find_told};
 ghost use Rattle.firmware.specs.Finding.{find_result, find_file};
 
 use loader::load;
-use shape::{Found, find, number_of};
+use shape::{FindError, Point, find, number_of};
 
 // Whether the point is an output, 1, or a read point, 0; and its number.
 #[repr(C)]
@@ -16,22 +16,22 @@ pub struct FindResult {
 }
 
 // What finding answers.
-fn find_result(found: Found) -> FindResult
+fn find_result(found: Result<Point, FindError>) -> FindResult
     ensures { result ≡ find_result (find_told found) }
 {
     let number = number_of(found);
     match found {
-        Found::Read(k) => FindResult {
+        Ok(Point::Read(k)) => FindResult {
             number,
             output: 0,
             point: k,
         },
-        Found::Output(k) => FindResult {
+        Ok(Point::Output(k)) => FindResult {
             number,
             output: 1,
             point: k,
         },
-        _ => FindResult {
+        Err(_) => FindResult {
             number,
             output: 0,
             point: 0,

@@ -1,3 +1,2 @@
-pub mod DraftLaws
 pub mod LineLaws
 pub mod LoadedSets

@@ -1,65 +1,73 @@
-// The bytes of a line, as they are made: the first `len` of the bytes.
-ghost use Rattle.std.specs.Prelude.{◌≡◌, [], ◌∷◌, ◌++◌, ◌+◌, ◌≤◌, length, take};
+// The bytes of a line, as they are made.
+ghost use Rattle.std.specs.Prelude.{◌≡◌, ℕ, List, [], ◌∷◌, ◌++◌, ◌+◌, ◌≤◌, ◌<◌, length, take};
 ghost use Rattle.line.specs.Line.{spaced};
-ghost use Rattle.line.specs.way.Draft.{draft_bytes};
 
 use decimal::digits_of;
+use std::marker::Model;
 
 // A word of at most 8 bytes, three numbers of at most 20 digits with a space before each, and the line's end fit.
-pub const LONGEST_LINE: usize = 80;
+const LONGEST_LINE: usize = 80;
 
-#[derive(Clone, Copy)]
+#[derive(Drop)]
 pub struct Draft {
-    pub bytes: [u8; LONGEST_LINE],
-    pub len: usize,
+    bytes: [u8; LONGEST_LINE],
+    len: usize,
 }
 
-fn empty_draft() -> Draft
-    ensures { (result.len ≡ 0) × (draft_bytes result ≡ []) }
-{
-    let bytes = [0u8; LONGEST_LINE];
-    Draft { bytes, len: 0 }
+// The bytes that are made: the first `len`.
+impl Model for Draft {
+    ghost Value = { List ℕ };
+
+    ghost view = { λ d. take d.len d.bytes };
+
+    ghost invariant = { λ d. d.len ≤ 80 };
 }
 
-// The draft with one byte more.
-pub fn with_byte(t: Draft, byte: u8) -> Draft
-    requires { t.len + 1 ≤ 80 }
-    ensures { (result.len ≡ t.len + 1) × (draft_bytes result ≡ draft_bytes t ++ (byte ∷ [])) }
-{
-    let len = t.len;
-    let mut more = t;
-    more.bytes[len] = byte;
-    more.len = len + 1;
-    more
-}
-
-// The first `len` bytes of a word.
-pub fn word_draft(word: [u8; 8], len: usize) -> Draft
-    requires { len ≤ 8 }
-    ensures { (result.len ≡ len) × (draft_bytes result ≡ take len word) }
-{
-    let mut t = empty_draft();
-    let mut k: usize = 0;
-    while k < len {
-        let c = word[k];
-        t = with_byte(t, c);
-        k = k + 1;
+impl Draft {
+    pub fn new() -> Self
+        ensures { result ≡ [] }
+    {
+        Draft {
+            bytes: [0; LONGEST_LINE],
+            len: 0,
+        }
     }
-    t
-}
 
-// The draft with a space and a number behind it.
-pub fn with_number(t: Draft, n: usize) -> Draft
-    requires { t.len + 21 ≤ 80 }
-    ensures { (result.len ≤ t.len + 21) × (draft_bytes result ≡ draft_bytes t ++ spaced n) }
-{
-    let digits = digits_of(n);
-    let mut more = with_byte(t, 0x20);
-    let mut k = digits.at;
-    while k < 20 {
-        let c = digits.bytes[k];
-        more = with_byte(more, c);
-        k = k + 1;
+    // One byte more.
+    pub fn push(&mut self, byte: u8)
+        requires { length self.old < 80 }
+        ensures { self.new ≡ self.old ++ (byte ∷ []) }
+    {
+        self.bytes[self.len] = byte;
+        self.len += 1;
     }
-    more
+
+    // Bytes more.
+    pub fn push_all(&mut self, bytes: &[u8])
+        requires { length self.old + length bytes.now ≤ 80 }
+        ensures { self.new ≡ self.old ++ bytes.now }
+    {
+        for b in bytes {
+            self.push(*b);
+        }
+    }
+
+    // A space and a number more.
+    #[tactic(auto, unfolding(crate::specs::Line::spaced))]
+    pub fn push_number(&mut self, n: usize)
+        requires { length self.old + 21 ≤ 80 }
+        ensures added { self.new ≡ self.old ++ spaced n }
+        ensures at_most { length self.new ≤ length self.old + 21 }
+    {
+        let digits = digits_of(n);
+        self.push(0x20);
+        self.push_all(digits.as_slice());
+    }
+
+    // All bytes.
+    pub fn as_slice(&self) -> &[u8]
+        ensures { result.now ≡ self.now }
+    {
+        &self.bytes[..self.len]
+    }
 }

@@ -1,10 +1,9 @@
 // The line is made as a draft first, and then put into the lent buffer.
-ghost use Rattle.std.specs.Prelude.{◌≡◌, ◌+◌, ◌≤◌, [], ◌∷◌, ◌++◌, length, take};
-ghost use Rattle.writer.specs.way.Write.{put_at};
-ghost use Rattle.line.specs.Line.{spaced, line_bytes, line_answer, buffer_after};
-ghost use Rattle.line.specs.way.Draft.{draft_bytes};
+ghost use Rattle.std.specs.Prelude.{◌≡◌, ◌≤◌, [], ◌∷◌, ◌++◌, length};
+ghost use Rattle.line.specs.Line.{line_bytes, line_answer, buffer_after};
+ghost use Rattle.line.specs.way.Draft.{numbered};
 
-use super::draft::{Draft, with_byte, with_number, word_draft};
+use super::draft::Draft;
 
 // Accepted, with the counts of read points, outputs and constraints; or the refusal of the load and its offset; or why the verdict rejects the set.
 #[derive(Clone, Copy)]
@@ -16,67 +15,45 @@ pub enum Line {
     NoEnd { word: u32, request: u16 },
 }
 
-// A word and two numbers, and the line's end.
-fn two_draft(word: [u8; 8], len: usize, a: usize, b: usize) -> Draft
-    requires { len ≤ 8 }
-    ensures { (result.len ≤ 80) × (draft_bytes result ≡ take len word ++ spaced a ++ spaced b ++ (0x0A ∷ [])) }
+// A word, numbers with a space before each, and the line's end.
+fn written(word: &[u8], numbers: &[usize]) -> Draft
+    requires { (length word.now ≤ 8) × (length numbers.now ≤ 3) }
+    ensures { result ≡ numbered word.now numbers.now ++ (0x0A ∷ []) }
 {
-    let t = with_number(word_draft(word, len), a);
-    with_byte(with_number(t, b), 0x0A)
+    let mut draft = Draft::new();
+    draft.push_all(word);
+    for n in numbers {
+        draft.push_number(*n);
+    }
+    draft.push(0x0A);
+    draft
 }
 
 // The line's bytes.
+#[tactic(auto, unfolding(crate::specs::Line::line_bytes))]
 fn line_draft(line: Line) -> Draft
-    ensures { (result.len ≤ 80) × (draft_bytes result ≡ line_bytes line) }
+    ensures { result ≡ line_bytes line }
 {
     match line {
-        Line::Accept { r, n, m } => {
-            let t = with_number(word_draft(*b"ACCEPT\0\0", 6), r);
-            with_byte(with_number(with_number(t, n), m), 0x0A)
-        },
-        Line::Load { number, offset } => two_draft(*b"LOAD\0\0\0\0", 4, number as usize, offset),
-        Line::NoVector { word } => {
-            let t = word_draft(*b"NOVECTOR", 8);
-            with_byte(with_number(t, word as usize), 0x0A)
-        },
-        Line::Clash { word, output } => two_draft(
-            *b"CLASH\0\0\0",
-            5,
-            word as usize,
-            output as usize,
-        ),
-        Line::NoEnd { word, request } => two_draft(
-            *b"NOEND\0\0\0",
-            5,
-            word as usize,
-            request as usize,
-        ),
-    }
-}
-
-// The draft at the front of the buffer.
-fn put_draft(buf: &mut [u8], draft: Draft)
-    requires { (draft.len ≤ 80) × (draft.len ≤ length buf.old) }
-    ensures { buf.new ≡ put_at buf.old 0 (draft_bytes draft) }
-{
-    let len = draft.len;
-    let mut i: usize = 0;
-    while i < len {
-        buf[i] = draft.bytes[i];
-        i = i + 1;
+        Line::Accept { r, n, m } => written(b"ACCEPT", &[r, n, m]),
+        Line::Load { number, offset } => written(b"LOAD", &[number as usize, offset]),
+        Line::NoVector { word } => written(b"NOVECTOR", &[word as usize]),
+        Line::Clash { word, output } => written(b"CLASH", &[word as usize, output as usize]),
+        Line::NoEnd { word, request } => written(b"NOEND", &[word as usize, request as usize]),
     }
 }
 
 // The line at the front of the buffer, later bytes untouched, and its length; 0 and the buffer untouched where the buffer is shorter than the line.
+#[tactic(auto, unfolding(crate::specs::Line::line_answer, crate::specs::Line::buffer_after))]
 pub fn put_line(line: Line, buf: &mut [u8]) -> usize
     ensures value { result ≡ line_answer line (length buf.old) }
     ensures buf_after { buf.new ≡ buffer_after line buf.old }
 {
     let draft = line_draft(line);
-    let len = draft.len;
-    if buf.len() < len {
+    let bytes = draft.as_slice();
+    if buf.len() < bytes.len() {
         return 0;
     }
-    put_draft(buf, draft);
-    len
+    buf[..bytes.len()].copy_from_slice(bytes);
+    bytes.len()
 }

@@ -102,11 +102,9 @@ fn put_head(out: &mut [u8; PREPARED_BYTES], r: usize, n: usize, m: usize, rest: 
 fn put_reads(out: &mut [u8; PREPARED_BYTES], reads: [ReadPoint; MOST_READS])
     ensures { (s : Set) → s.reads ≡ reads → out.old ≡ up_to s 5 → out.new ≡ up_to s 205 }
 {
-    let mut i: usize = 5;
-    while i < 205 {
+    for i in 5..205 {
         let p = reads[(i - 5) / 10];
         out[i] = read_byte(p, (i - 5) % 10);
-        i = i + 1;
     }
 }
 
@@ -114,11 +112,9 @@ fn put_reads(out: &mut [u8; PREPARED_BYTES], reads: [ReadPoint; MOST_READS])
 fn put_outputs(out: &mut [u8; PREPARED_BYTES], outputs: [OutputPoint; MOST_OUTPUTS])
     ensures { (s : Set) → s.outputs ≡ outputs → out.old ≡ up_to s 205 → out.new ≡ up_to s 301 }
 {
-    let mut i: usize = 205;
-    while i < 301 {
+    for i in 205..301 {
         let p = outputs[(i - 205) / 8];
         out[i] = p.name[(i - 205) % 8];
-        i = i + 1;
     }
 }
 
@@ -126,11 +122,9 @@ fn put_outputs(out: &mut [u8; PREPARED_BYTES], outputs: [OutputPoint; MOST_OUTPU
 fn put_constraints(out: &mut [u8; PREPARED_BYTES], constraints: [Constraint; MOST_CONSTRAINTS])
     ensures { (s : Set) → s.constraints ≡ constraints → out.old ≡ up_to s 301 → out.new ≡ up_to s 1837 }
 {
-    let mut i: usize = 301;
-    while i < PREPARED_BYTES {
+    for i in 301..PREPARED_BYTES {
         let c = constraints[(i - 301) / 24];
         out[i] = constraint_byte(c, (i - 301) % 24);
-        i = i + 1;
     }
 }
 

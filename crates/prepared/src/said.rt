@@ -122,10 +122,8 @@ fn reads_in(b: &[u8; PREPARED_BYTES], r: usize) -> [ReadPoint; MOST_READS]
     let zero = ReadPoint { kind, name };
     let mut reads = [zero; MOST_READS];
     let end = least(r, MOST_READS);
-    let mut k: usize = 0;
-    while k < end {
+    for k in 0..end {
         reads[k] = read_in(b, k);
-        k = k + 1;
     }
     reads
 }
@@ -138,10 +136,8 @@ fn outputs_in(b: &[u8; PREPARED_BYTES], n: usize) -> [OutputPoint; MOST_OUTPUTS]
     let zero = OutputPoint { name };
     let mut outputs = [zero; MOST_OUTPUTS];
     let end = least(n, MOST_OUTPUTS);
-    let mut j: usize = 0;
-    while j < end {
+    for j in 0..end {
         outputs[j] = output_in(b, j);
-        j = j + 1;
     }
     outputs
 }
@@ -160,10 +156,8 @@ fn constraints_in(b: &[u8; PREPARED_BYTES], m: usize) -> [Constraint; MOST_CONST
     };
     let mut constraints = [zero; MOST_CONSTRAINTS];
     let end = least(m, MOST_CONSTRAINTS);
-    let mut i: usize = 0;
-    while i < end {
+    for i in 0..end {
         constraints[i] = constraint_in(b, i);
-        i = i + 1;
     }
     constraints
 }

@@ -15,8 +15,11 @@ use Rattle.scan.specs.declared.set.State.{State}
 use Rattle.scan.specs.Set.{zero_set, state_of}
 use Rattle.scan.specs.Shape.{well_formed}
 use Rattle.scan.proofs.ShapeLaws.{counts}
-use Rattle.shape.specs.declared.finding.Found.{Found}
-use Rattle.shape.specs.declared.finding.Found.TheVariants.{Read, Output, BadSet as FindBadSet, BadLength, Unknown}
+use Rattle.std.specs.Prelude.{Result, Ok, Err}
+use Rattle.shape.specs.declared.finding.Point.{Point}
+use Rattle.shape.specs.declared.finding.Point.TheVariants.{Read, Output}
+use Rattle.shape.specs.declared.finding.FindError.{FindError}
+use Rattle.shape.specs.declared.finding.FindError.TheVariants.{BadSet as FindBadSet, BadLength, Unknown}
 use Rattle.shape.specs.Finding.{find_of}
 use Rattle.shape.specs.Told.{find_told}
 use Rattle.machine.specs.declared.machine.ScanAnswer.{ScanAnswer}
@@ -254,12 +257,12 @@ find_says file name = record {
   refused = λ c e. (not_0 (find_of (set_in file) name) c e, ap find_result e);
 }
   where
-    not_0 : (f : Found) (c : ℕ) → find_told f ≡ c ∷ [] → c ≢ 0
-    not_0 (Read k) c e z = let x : ◌≡◌ {A = ℕ} 0 1 = cc in omega arith
-    not_0 (Output k) c e z = let x : ◌≡◌ {A = ℕ} 0 1 = cc in omega arith
-    not_0 FindBadSet c e z = apart 20 0 [] [] refl (e ∙ ap (λ (n : ℕ). n ∷ []) z)
-    not_0 BadLength c e z = apart 40 0 [] [] refl (e ∙ ap (λ (n : ℕ). n ∷ []) z)
-    not_0 Unknown c e z = apart 41 0 [] [] refl (e ∙ ap (λ (n : ℕ). n ∷ []) z)
+    not_0 : (f : Result Point FindError) (c : ℕ) → find_told f ≡ c ∷ [] → c ≢ 0
+    not_0 (Ok (Read k)) c e z = let x : ◌≡◌ {A = ℕ} 0 1 = cc in omega arith
+    not_0 (Ok (Output k)) c e z = let x : ◌≡◌ {A = ℕ} 0 1 = cc in omega arith
+    not_0 (Err FindBadSet) c e z = apart 20 0 [] [] refl (e ∙ ap (λ (n : ℕ). n ∷ []) z)
+    not_0 (Err BadLength) c e z = apart 40 0 [] [] refl (e ∙ ap (λ (n : ℕ). n ∷ []) z)
+    not_0 (Err Unknown) c e z = apart 41 0 [] [] refl (e ∙ ap (λ (n : ℕ). n ∷ []) z)
 
 -- ---- lists of calls
 

@@ -12,8 +12,11 @@ use borrow.Author.Tests.{ltb-true, ltb-false, leb-true, le-leb}
 use Rattle.words.proofs.BoolLaws.{by_test, clash, and_true}
 use Rattle.words.proofs.LoopLaws.{all_true, all_at}
 use Rattle.scan.specs.declared.set.Set.{Set}
-use Rattle.shape.specs.declared.finding.Found.{Found}
-use Rattle.shape.specs.declared.finding.Found.TheVariants.{Read, Output, BadSet, BadLength, Unknown}
+use Rattle.std.specs.Prelude.{Result, Ok, Err}
+use Rattle.shape.specs.declared.finding.Point.{Point}
+use Rattle.shape.specs.declared.finding.Point.TheVariants.{Read, Output}
+use Rattle.shape.specs.declared.finding.FindError.{FindError}
+use Rattle.shape.specs.declared.finding.FindError.TheVariants.{BadSet, BadLength, Unknown}
 use Rattle.scan.specs.Names.{name_byte, length_ok, all_name_bytes, padded, first_read, first_output}
 use Rattle.scan.specs.Shape.{well_formed}
 use Rattle.shape.specs.Finding.{find_padded, find_of}
@@ -46,19 +49,19 @@ module _ (s : Set) (bytes : List ℕ) where
     λ a. ap₂ ◌&&◌ (le-leb 1 (length bytes) a.0) (le-leb (length bytes) 8 a.1),
   )
 
-  told_read : (f : Found) (k : ℕ) → find_told f ≡ 0 ∷ 0 ∷ k ∷ [] → f ≡ Read k
-  told_read (Read i) k e = let same : i ≡ k = cc in ap Read same
-  told_read (Output j) k e = let z : ◌≡◌ {A = ℕ} 1 0 = cc in absurd (omega arith)
-  told_read BadSet k e = apart 20 0 [] (0 ∷ k ∷ []) refl e
-  told_read BadLength k e = apart 40 0 [] (0 ∷ k ∷ []) refl e
-  told_read Unknown k e = apart 41 0 [] (0 ∷ k ∷ []) refl e
+  told_read : (f : Result Point FindError) (k : ℕ) → find_told f ≡ 0 ∷ 0 ∷ k ∷ [] → f ≡ Ok (Read k)
+  told_read (Ok (Read i)) k e = let same : i ≡ k = cc in ap (λ (n : ℕ). Ok (Read n)) same
+  told_read (Ok (Output j)) k e = let z : ◌≡◌ {A = ℕ} 1 0 = cc in absurd (omega arith)
+  told_read (Err BadSet) k e = apart 20 0 [] (0 ∷ k ∷ []) refl e
+  told_read (Err BadLength) k e = apart 40 0 [] (0 ∷ k ∷ []) refl e
+  told_read (Err Unknown) k e = apart 41 0 [] (0 ∷ k ∷ []) refl e
 
-  told_output : (f : Found) (j : ℕ) → find_told f ≡ 0 ∷ 1 ∷ j ∷ [] → f ≡ Output j
-  told_output (Read i) j e = let z : ◌≡◌ {A = ℕ} 0 1 = cc in absurd (omega arith)
-  told_output (Output i) j e = let same : i ≡ j = cc in ap Output same
-  told_output BadSet j e = apart 20 0 [] (1 ∷ j ∷ []) refl e
-  told_output BadLength j e = apart 40 0 [] (1 ∷ j ∷ []) refl e
-  told_output Unknown j e = apart 41 0 [] (1 ∷ j ∷ []) refl e
+  told_output : (f : Result Point FindError) (j : ℕ) → find_told f ≡ 0 ∷ 1 ∷ j ∷ [] → f ≡ Ok (Output j)
+  told_output (Ok (Read i)) j e = let z : ◌≡◌ {A = ℕ} 0 1 = cc in absurd (omega arith)
+  told_output (Ok (Output i)) j e = let same : i ≡ j = cc in ap (λ (n : ℕ). Ok (Output n)) same
+  told_output (Err BadSet) j e = apart 20 0 [] (1 ∷ j ∷ []) refl e
+  told_output (Err BadLength) j e = apart 40 0 [] (1 ∷ j ∷ []) refl e
+  told_output (Err Unknown) j e = apart 41 0 [] (1 ∷ j ∷ []) refl e
 
   -- what finding tells, by the way that it goes
   pub data Looked : Type 0 where
@@ -98,7 +101,7 @@ module _ (s : Set) (bytes : List ℕ) where
   formed_case (output_point_law ok j e) = (λ t. apart 0 20 (1 ∷ j ∷ []) [] refl (sym e ∙ t), λ x. clash ok x)
 
   -- a name that is found has an allowed length: it is a point's
-  found_length : (f : Found) → find_of s bytes ≡ f → well_formed s ≡ true → ¬ LengthAllowed bytes → f ≡ BadLength
+  found_length : (f : Result Point FindError) → find_of s bytes ≡ f → well_formed s ≡ true → ¬ LengthAllowed bytes → f ≡ Err BadLength
   found_length f e ok n = sym (find_length s bytes ok ((fails_not (length_ok bytes) long_enough).1 n) ∙ e)
 
   length_case : Looked → (found ≡ 40 ∷ []) ↔ ((well_formed s ≡ true) × (¬ LengthAllowed bytes))

@@ -12,8 +12,11 @@ use Rattle.words.specs.Loop.{first}
 use Rattle.words.proofs.BoolLaws.{by_test, clash}
 use Rattle.words.proofs.LoopLaws.{first_is, first_spec}
 use Rattle.scan.specs.declared.set.Set.{Set}
-use Rattle.shape.specs.declared.finding.Found.{Found}
-use Rattle.shape.specs.declared.finding.Found.TheVariants.{Read, Output, BadSet, BadLength, Unknown}
+use Rattle.std.specs.Prelude.{Result, Ok, Err}
+use Rattle.shape.specs.declared.finding.Point.{Point}
+use Rattle.shape.specs.declared.finding.Point.TheVariants.{Read, Output}
+use Rattle.shape.specs.declared.finding.FindError.{FindError}
+use Rattle.shape.specs.declared.finding.FindError.TheVariants.{Unknown}
 use Rattle.scan.specs.Set.{name_places, read_point, output_point}
 use Rattle.scan.specs.Names.{length_ok, all_name_bytes, padded, name_bytes, name_ok, same_name, read_has_name, first_read, output_named, first_output}
 use Rattle.scan.specs.Shape.{well_formed}
@@ -39,7 +42,7 @@ first_own : (p : ℕ → Bool) (k n : ℕ) → k < n → first k p ≡ k → p k
 first_own p k n h e t = first_is n k p h t (λ j l. (first_spec k p).before j (omega arith))
 
 -- Every read point of a well-formed set is found under its own name.
-pub read_found : (s : Set) → well_formed s ≡ true → (k : ℕ) → k < s.r → find_of s (name_bytes (read_point s.reads k).name) ≡ Read k
+pub read_found : (s : Set) → well_formed s ≡ true → (k : ℕ) → k < s.r → find_of s (name_bytes (read_point s.reads k).name) ≡ Ok (Read k)
 unfolding first_read read_has_name
 read_found s w k h =
     let name = (read_point s.reads k).name in
@@ -48,7 +51,7 @@ read_found s w k h =
     ∙ sym (find_read s name k (sym (first_own (read_has_name s.reads name) k s.r h p.own (name_same name))) h)
 
 -- Every output of a well-formed set is found under its own name.
-pub output_found : (s : Set) → well_formed s ≡ true → (j : ℕ) → j < s.n → find_of s (name_bytes (output_point s.outputs j).name) ≡ Output j
+pub output_found : (s : Set) → well_formed s ≡ true → (j : ℕ) → j < s.n → find_of s (name_bytes (output_point s.outputs j).name) ≡ Ok (Output j)
 unfolding first_output output_named
 output_found s w j h =
     let name = (output_point s.outputs j).name in
@@ -59,28 +62,23 @@ output_found s w j h =
 
 -- ---- no name finds a point that does not bear it
 
-abbrev is_point : Found → Bool
-is_point (Read k) = true
-is_point (Output j) = true
-is_point BadSet = false
-is_point BadLength = false
-is_point Unknown = false
+abbrev is_point : Result Point FindError → Bool
+is_point (Ok p) = true
+is_point (Err e) = false
 
-abbrev is_read : Found → Bool
-is_read (Read k) = true
-is_read (Output j) = false
-is_read BadSet = false
-is_read BadLength = false
-is_read Unknown = false
+abbrev is_read : Result Point FindError → Bool
+is_read (Ok (Read k)) = true
+is_read (Ok (Output j)) = false
+is_read (Err e) = false
 
 -- the tests that passed where a point is found
-record Told (s : Set) (bytes : List ℕ) (f : Found) : Type 0 where
+record Told (s : Set) (bytes : List ℕ) (f : Result Point FindError) : Type 0 where
   formed : well_formed s ≡ true
   few : length bytes ≤ name_places
   named : all_name_bytes bytes ≡ true
   here : find_padded s (padded bytes) ≡ f
 
-told : (s : Set) (bytes : List ℕ) (f : Found) → is_point f ≡ true → find_of s bytes ≡ f → Told s bytes f
+told : (s : Set) (bytes : List ℕ) (f : Result Point FindError) → is_point f ≡ true → find_of s bytes ≡ f → Told s bytes f
 told s bytes f p e =
     by_test (well_formed s)
     (λ w. by_test (length_ok bytes)
@@ -99,9 +97,9 @@ bears bytes name few named ok same =
 
 -- what finding by a name comes to: the first read point, or else the first output, that has it, or nothing
 by_found : {C : Type 0} (s : Set) (name : List ℕ)
-    → ((k : ℕ) → k < s.r → read_has_name s.reads name k ≡ true → find_padded s name ≡ Read k → C)
-    → ((j : ℕ) → j < s.n → output_named s.outputs name j ≡ true → find_padded s name ≡ Output j → C)
-    → (find_padded s name ≡ Unknown → C) → C
+    → ((k : ℕ) → k < s.r → read_has_name s.reads name k ≡ true → find_padded s name ≡ Ok (Read k) → C)
+    → ((j : ℕ) → j < s.n → output_named s.outputs name j ≡ true → find_padded s name ≡ Ok (Output j) → C)
+    → (find_padded s name ≡ Err Unknown → C) → C
 unfolding first_read first_output
 by_found s name f g h =
     let k = first_read s.reads s.r name in
@@ -115,10 +113,10 @@ by_found s name f g h =
     (λ u. h (sym (find_none s name k refl j m refl (ltb-false j s.n u)))))
 
 -- Where a read point is found, it is one of the set's, and the bytes are its name.
-pub found_read : (s : Set) (bytes : List ℕ) (k : ℕ) → find_of s bytes ≡ Read k → (k < s.r) × (bytes ≡ name_bytes (read_point s.reads k).name)
+pub found_read : (s : Set) (bytes : List ℕ) (k : ℕ) → find_of s bytes ≡ Ok (Read k) → (k < s.r) × (bytes ≡ name_bytes (read_point s.reads k).name)
 unfolding read_has_name
 found_read s bytes k e =
-    let t = told s bytes (Read k) refl e in
+    let t = told s bytes (Ok (Read k)) refl e in
     by_found s (padded bytes)
     (λ i l n q.
     let same : i ≡ k = read_is i k (sym q ∙ t.here) in
@@ -128,14 +126,14 @@ found_read s bytes k e =
     (λ i l n q. clash refl (ap is_read (sym t.here ∙ q)))
     (λ q. clash refl (ap is_read (sym t.here ∙ q)))
   where
-    read_is : (i k : ℕ) → Read i ≡ Read k → i ≡ k
+    read_is : (i k : ℕ) → ◌≡◌ {A = Result Point FindError} (Ok (Read i)) (Ok (Read k)) → i ≡ k
     read_is i k q = cc
 
 -- Where an output is found, it is one of the set's, and the bytes are its name.
-pub found_output : (s : Set) (bytes : List ℕ) (j : ℕ) → find_of s bytes ≡ Output j → (j < s.n) × (bytes ≡ name_bytes (output_point s.outputs j).name)
+pub found_output : (s : Set) (bytes : List ℕ) (j : ℕ) → find_of s bytes ≡ Ok (Output j) → (j < s.n) × (bytes ≡ name_bytes (output_point s.outputs j).name)
 unfolding output_named
 found_output s bytes j e =
-    let t = told s bytes (Output j) refl e in
+    let t = told s bytes (Ok (Output j)) refl e in
     by_found s (padded bytes)
     (λ i l n q. clash refl (ap is_read (sym q ∙ t.here)))
     (λ i l n q.
@@ -145,5 +143,5 @@ found_output s bytes j e =
     (l, bears bytes (output_point s.outputs i).name t.few t.named own.name_ok_law n))
     (λ q. clash refl (ap is_point (sym t.here ∙ q)))
   where
-    output_is : (i k : ℕ) → Output i ≡ Output k → i ≡ k
+    output_is : (i k : ℕ) → ◌≡◌ {A = Result Point FindError} (Ok (Output i)) (Ok (Output k)) → i ≡ k
     output_is i k q = cc

@@ -3,3 +3,4 @@ pub mod ShapeWayLaws
 pub mod SpellingLaws
 pub mod FindingLaws
 pub mod FoundPoints
+pub mod ListTests

@@ -1,7 +1,7 @@
 // Names of points: eight byte places by value, compared byte by byte.
 ghost use Rattle.std.specs.Prelude.{◌≡◌, ◌≤◌, min, length};
 ghost use Rattle.scan.specs.Set.{most_reads, most_outputs, name_places};
-ghost use Rattle.scan.specs.Names.{name_byte, all_name_bytes, length_ok, padded, name_bytes, name_ok, name_zero, same_name};
+ghost use Rattle.scan.specs.Names.{name_byte, all_name_bytes, length_ok, padded, name_bytes, name_ok, name_zero};
 ghost use Rattle.shape.specs.way.Names.{next_ok, first_name, name_used, ReadNames, OutputNames};
 ghost use Rattle.shape.specs.Spelling.{spelling};
 
@@ -19,13 +19,7 @@ pub fn is_name_byte(b: u8) -> bool
 fn are_name_bytes(bytes: &[u8]) -> bool
     ensures { result ≡ all_name_bytes bytes.now }
 {
-    let mut ok = true;
-    let mut k: usize = 0;
-    while k < bytes.len() {
-        ok = both(ok, is_name_byte(bytes[k]));
-        k = k + 1;
-    }
-    ok
+    bytes.iter().all(|b| is_name_byte(*b))
 }
 
 // Whether a name may have so many bytes.
@@ -41,11 +35,7 @@ fn pad(bytes: &[u8]) -> [u8; NAME_PLACES]
     ensures { result ≡ padded bytes.now }
 {
     let mut name = [0u8; NAME_PLACES];
-    let mut k: usize = 0;
-    while k < bytes.len() {
-        name[k] = bytes[k];
-        k = k + 1;
-    }
+    name[..bytes.len()].copy_from_slice(bytes);
     name
 }
 
@@ -63,15 +53,7 @@ pub fn spell(bytes: &[u8]) -> Option<[u8; NAME_PLACES]>
 pub fn name_length(name: [u8; NAME_PLACES]) -> usize
     ensures { (result ≡ length (name_bytes name)) × (result ≤ name_places) }
 {
-    let mut k: usize = 0;
-    while k < NAME_PLACES {
-        let c = name[k];
-        if c == 0 {
-            return k;
-        }
-        k = k + 1;
-    }
-    NAME_PLACES
+    name.iter().position(|c| *c == 0).unwrap_or(NAME_PLACES)
 }
 
 // A zero, or a name byte behind a byte that is no zero.
@@ -87,12 +69,9 @@ pub fn is_name(name: [u8; NAME_PLACES]) -> bool
 {
     let mut before = name[0];
     let mut ok = before != 0;
-    let mut k: usize = 0;
-    while k < NAME_PLACES {
-        let b = name[k];
+    for b in name {
         ok = both(ok, is_next_ok(before, b));
         before = b;
-        k = k + 1;
     }
     ok
 }
@@ -101,25 +80,7 @@ pub fn is_name(name: [u8; NAME_PLACES]) -> bool
 pub fn is_zero_name(name: [u8; NAME_PLACES]) -> bool
     ensures { result ≡ name_zero name }
 {
-    let mut ok = true;
-    let mut k: usize = 0;
-    while k < NAME_PLACES {
-        ok = both(ok, name[k] == 0);
-        k = k + 1;
-    }
-    ok
-}
-
-fn is_same_name(a: [u8; NAME_PLACES], b: [u8; NAME_PLACES]) -> bool
-    ensures { result ≡ same_name a b }
-{
-    let mut same = true;
-    let mut k: usize = 0;
-    while k < NAME_PLACES {
-        same = both(same, a[k] == b[k]);
-        k = k + 1;
-    }
-    same
+    name == [0; NAME_PLACES]
 }
 
 // The names of the read points, for functions to which they are lent.
@@ -128,12 +89,8 @@ pub fn names_of_reads(reads: [ReadPoint; MOST_READS]) -> [[u8; NAME_PLACES]; MOS
 {
     let none = [0u8; NAME_PLACES];
     let mut names = [none; MOST_READS];
-    let mut k: usize = 0;
-    while k < MOST_READS {
-        let p = reads[k];
-        let name = p.name;
-        names[k] = name;
-        k = k + 1;
+    for k in 0..MOST_READS {
+        names[k] = reads[k].name;
     }
     names
 }
@@ -144,12 +101,8 @@ pub fn names_of_outputs(outputs: [OutputPoint; MOST_OUTPUTS]) -> [[u8; NAME_PLAC
 {
     let none = [0u8; NAME_PLACES];
     let mut names = [none; MOST_OUTPUTS];
-    let mut k: usize = 0;
-    while k < MOST_OUTPUTS {
-        let p = outputs[k];
-        let name = p.name;
-        names[k] = name;
-        k = k + 1;
+    for k in 0..MOST_OUTPUTS {
+        names[k] = outputs[k].name;
     }
     names
 }
@@ -159,15 +112,7 @@ pub fn first_of(names: &[[u8; NAME_PLACES]], i: usize, name: [u8; NAME_PLACES]) 
     requires { i ≤ length names.now }
     ensures { result ≡ first_name names.now i name }
 {
-    let mut k: usize = 0;
-    while k < i {
-        let own = names[k];
-        if is_same_name(own, name) {
-            return k;
-        }
-        k = k + 1;
-    }
-    i
+    names[..i].iter().position(|own| *own == name).unwrap_or(i)
 }
 
 // Whether one of the first i names of read points, or of the first j of outputs, is the name.

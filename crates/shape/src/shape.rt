@@ -40,12 +40,8 @@ fn sensors_of(reads: [ReadPoint; MOST_READS]) -> u32
     ensures { result ≡ sensors_of reads }
 {
     let mut w: u32 = 0;
-    let mut k: usize = 0;
-    while k < MOST_READS {
-        let p = reads[k];
-        let kind = p.kind;
-        w = w | keep32(is_sensor(kind), 1u32 << k);
-        k = k + 1;
+    for k in 0..MOST_READS {
+        w |= keep32(is_sensor(reads[k].kind), 1u32 << k);
     }
     w
 }
@@ -120,11 +116,8 @@ fn are_reads_ok(
 {
     let sensors = sensors_of(reads);
     let mut ok = true;
-    let mut k: usize = 0;
-    while k < MOST_READS {
-        let p = reads[k];
-        ok = both(ok, is_read_place_ok(names, sensors, r, n, k, p));
-        k = k + 1;
+    for k in 0..MOST_READS {
+        ok = both(ok, is_read_place_ok(names, sensors, r, n, k, reads[k]));
     }
     ok
 }
@@ -177,10 +170,8 @@ fn are_outputs_ok<'a>(
     ensures { result ≡ all most_outputs (output_place_by reads.now r outputs.now n) }
 {
     let mut ok = true;
-    let mut j: usize = 0;
-    while j < MOST_OUTPUTS {
+    for j in 0..MOST_OUTPUTS {
         ok = both(ok, is_output_place_ok(reads, r, outputs, n, j));
-        j = j + 1;
     }
     ok
 }
@@ -191,10 +182,8 @@ fn are_ranks_ok(c: Constraint) -> bool
 {
     let named = c.out_plain | c.out_negated;
     let mut ok = true;
-    let mut k: usize = 0;
-    while k < MOST_OUTPUTS {
+    for k in 0..MOST_OUTPUTS {
         ok = both(ok, either(words::bit16(k, named), c.ranks[k] == 0));
-        k = k + 1;
     }
     ok
 }
@@ -224,13 +213,7 @@ fn is_constraint_ok(r: usize, n: usize, c: Constraint) -> bool
 fn are_ranks_zero(c: Constraint) -> bool
     ensures { result ≡ all most_outputs (rank_zero c) }
 {
-    let mut ok = true;
-    let mut k: usize = 0;
-    while k < MOST_OUTPUTS {
-        ok = both(ok, c.ranks[k] == 0);
-        k = k + 1;
-    }
-    ok
+    c.ranks == [0; MOST_OUTPUTS]
 }
 
 fn is_constraint_zero(c: Constraint) -> bool
@@ -258,11 +241,8 @@ fn are_constraints_ok(s: Set) -> bool
     let n = s.n;
     let m = s.m;
     let mut ok = true;
-    let mut i: usize = 0;
-    while i < MOST_CONSTRAINTS {
-        let c = s.constraints[i];
-        ok = both(ok, is_constraint_place_ok(i < m, r, n, c));
-        i = i + 1;
+    for i in 0..MOST_CONSTRAINTS {
+        ok = both(ok, is_constraint_place_ok(i < m, r, n, s.constraints[i]));
     }
     ok
 }

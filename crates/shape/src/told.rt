@@ -2,17 +2,16 @@
 ghost use Rattle.std.specs.Prelude.{◌≡◌, get_or};
 ghost use Rattle.shape.specs.Told.{find_told};
 
-use super::finding::Found;
+use super::finding::{FindError, Point};
 
 // 0 where a point was found; else the refusal.
-pub fn number_of(found: Found) -> u8
+pub fn number_of(found: Result<Point, FindError>) -> u8
     ensures { result ≡ get_or (find_told found) 0 0 }
 {
     match found {
-        Found::Read(_) => 0,
-        Found::Output(_) => 0,
-        Found::BadSet => 20,
-        Found::BadLength => 40,
-        Found::Unknown => 41,
+        Ok(_) => 0,
+        Err(FindError::BadSet) => 20,
+        Err(FindError::BadLength) => 40,
+        Err(FindError::Unknown) => 41,
     }
 }

@@ -20,7 +20,10 @@ use Rattle.setfile.proofs.WriteLoaded.{write_loaded}
 use Rattle.line.specs.declared.printer.Line.TheVariants.{Load}
 use Rattle.line.specs.Line.{spaced, line_bytes, line_answer, buffer_after as line_after}
 use Rattle.line.proofs.LineLaws.{answer_within}
-use Rattle.text.specs.declared.printing.TextPut.TheVariants.{Put, BadSet, Short}
+use Rattle.std.specs.Prelude.{Result, Ok, Err}
+use Rattle.std.specs.Result.{result_unwrap_or}
+use Rattle.shape.specs.declared.putting.PutError.{PutError}
+use Rattle.shape.specs.declared.putting.PutError.TheVariants.{BadSet, Short}
 use Rattle.text.specs.Text.{text_of, text_answer, buffer_after as text_after}
 use Rattle.text.specs.way.Place.{text_end}
 use Rattle.text.proofs.TextLaws.{text_fits}
@@ -36,6 +39,11 @@ module _ (file : List ℕ) (loaded : Loaded) (e : loaded ≡ load_of file) (a : 
   pub after_told : (buf : List ℕ) → answer_after loaded.set buf a ≡ shown_after file buf
   unfolding shown_after
   after_told buf = ap (answer_after loaded.set buf) (sym h) ∙ ap (λ (l : Loaded). answer_after l.set buf l.answer) e
+
+-- the length of a text that was put, else 0, as the code says it
+pub put_or_none : (r : Result ℕ PutError) → result_unwrap_or r 0 ≡ length_put r
+put_or_none (Ok size) = refl
+put_or_none (Err e) = refl
 
 -- ---- the whole of it
 
@@ -90,7 +98,7 @@ unfolding text_answer text_after
 text_within s buf = go (well_formed s) (ltb (length buf) (length (text_of s))) refl (leb (length (text_of s)) (length buf))
   where
     go : (ok lt : Bool) → ltb (length buf) (length (text_of s)) ≡ lt → (le : Bool)
-        → length_put (cond (not ok) BadSet (cond lt (Short (length (text_of s))) (Put (length (text_of s))))) ≤ length (cond (ok && le) (text_of s ++ drop (length (text_of s)) buf) buf)
+        → length_put (cond (not ok) (Err BadSet) (cond lt (Err (Short (length (text_of s)))) (Ok (length (text_of s))))) ≤ length (cond (ok && le) (text_of s ++ drop (length (text_of s)) buf) buf)
     go false lt e le = omega arith
     go true true e le = omega arith
     go true false e true = omega (arith, length-append (text_of s) (drop (length (text_of s)) buf))

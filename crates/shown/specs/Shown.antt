@@ -1,14 +1,13 @@
 -- What is printed of a set file: the text of its set, or the line of its refusal.
 -- Assumes nothing.
-use Rattle.std.specs.Prelude.{ℕ, List}
+use Rattle.std.specs.Prelude.{ℕ, List, Result, Ok, Err}
 use Rattle.scan.specs.declared.set.Set.{Set}
 use Rattle.loader.specs.declared.loader.LoadAnswer.{LoadAnswer}
 use Rattle.loader.specs.declared.loader.LoadAnswer.TheVariants.{Loaded, Refused}
 use Rattle.loader.specs.Load.{load_of}
 use Rattle.line.specs.declared.printer.Line.TheVariants.{Load}
 use Rattle.line.specs.Line.{line_bytes, line_answer, buffer_after as line_after}
-use Rattle.text.specs.declared.printing.TextPut.{TextPut}
-use Rattle.text.specs.declared.printing.TextPut.TheVariants.{Put, BadSet, Short}
+use Rattle.shape.specs.declared.putting.PutError.{PutError}
 use Rattle.text.specs.Text.{text_of, text_answer, buffer_after as text_after}
 
 -- what is printed, by the load's answer: the text of the set, or the refusal as the verdict program tells it
@@ -21,10 +20,9 @@ unfoldable pub shown_bytes : List ℕ → List ℕ
 shown_bytes file = answer_bytes (load_of file).set (load_of file).answer
 
 -- the length of a text that was put, else 0
-abbrev pub length_put : TextPut → ℕ
-length_put (Put size) = size
-length_put BadSet = 0
-length_put (Short needed) = 0
+abbrev pub length_put : Result ℕ PutError → ℕ
+length_put (Ok size) = size
+length_put (Err e) = 0
 
 -- the length put into so many bytes, by the load's answer; 0 where they are too few
 abbrev pub answer_length : Set → ℕ → LoadAnswer → ℕ

@@ -31,7 +31,8 @@ use Rattle.scan.specs.Names.{zero_at, name_length, name_bytes}
 use Rattle.scan.specs.Shape.{well_formed}
 use Rattle.scan.proofs.ShapeLaws.{counts, masks}
 use Rattle.shape.specs.way.Names.{ReadNames, OutputNames}
-use Rattle.text.specs.declared.printing.TextPut.TheVariants.{Put, BadSet, Short}
+use Rattle.std.specs.Prelude.{Ok, Err}
+use Rattle.shape.specs.declared.putting.PutError.TheVariants.{BadSet, Short}
 use Rattle.text.specs.Grammar.{output_word, sensor_word, past_word, of_word, rest_word, never_word, and_word, rank_word, end_word}
 use Rattle.text.specs.Text.{output_line, kind_line, read_line, rest_line, spaced_words, state_word, rank_words, behind, named_below, named_reads, several, read_literal, output_literal, never_line, shown_lines, lines_text, text_of, text_answer, buffer_after}
 use Rattle.text.specs.way.Place.{text_end, put_within, line_bytes, kind_line_by, rest_if, rest_line_by, literal_if, literal_at, never_line_by, outputs_bytes, reads_bytes, rests_bytes, constraints_bytes}
@@ -286,24 +287,24 @@ module _ (s : Set) where
 -- ---- the answer
 
 module _ (s : Set) (buf : List ℕ) where
-  pub bad_set : well_formed s ≡ false → (BadSet ≡ text_answer s (length buf)) × (buf ≡ buffer_after s buf)
+  pub bad_set : well_formed s ≡ false → (Err BadSet ≡ text_answer s (length buf)) × (buf ≡ buffer_after s buf)
   unfolding text_answer buffer_after
   bad_set e = (sym (simp e), sym (simp e))
 
   module _ (ok : well_formed s ≡ true) (needed : ℕ) (e : needed ≡ length (text_of s)) where
-    pub too_short : length buf < needed → (Short needed ≡ text_answer s (length buf)) × (buf ≡ buffer_after s buf)
+    pub too_short : length buf < needed → (Err (Short needed) ≡ text_answer s (length buf)) × (buf ≡ buffer_after s buf)
     unfolding text_answer buffer_after
     too_short h =
         let lt : ltb (length buf) (length (text_of s)) ≡ true = lt-ltb (length buf) (length (text_of s)) (omega arith) in
         let le : leb (length (text_of s)) (length buf) ≡ false = lt-leb (length (text_of s)) (length buf) (omega arith) in
-        (ap Short e ∙ sym (simp (ok, lt)), sym (simp (ok, le)))
+        (ap (λ (k : ℕ). Err (Short k)) e ∙ sym (simp (ok, lt)), sym (simp (ok, le)))
 
-    pub put_whole : needed ≤ length buf → (after : List ℕ) → after ≡ put_within buf 0 (text_of s) → (Put needed ≡ text_answer s (length buf)) × (after ≡ buffer_after s buf)
+    pub put_whole : needed ≤ length buf → (after : List ℕ) → after ≡ put_within buf 0 (text_of s) → (Ok needed ≡ text_answer s (length buf)) × (after ≡ buffer_after s buf)
     unfolding text_answer buffer_after
     put_whole h after a =
         let lt : ltb (length buf) (length (text_of s)) ≡ false = le-ltb (length buf) (length (text_of s)) (omega arith) in
         let le : leb (length (text_of s)) (length buf) ≡ true = le-leb (length (text_of s)) (length buf) (omega arith) in
         let fits = text_fits s ok in (
-          ap Put e ∙ sym (simp (ok, lt)),
+          ap (λ (k : ℕ). Ok k) e ∙ sym (simp (ok, lt)),
           a ∙ put_is buf 0 (text_of s) (omega arith) (omega arith) ∙ ap (λ (k : ℕ). text_of s ++ drop k buf) (zero-add (length (text_of s))) ∙ sym (simp (ok, le)),
         )

@@ -1,6 +1,6 @@
 -- The text of a set: its outputs, its read points, the outputs of its rest word and its constraints by number, each on a line of its own, and `end`. Then putting it into a buffer.
 -- Assumes nothing.
-use Rattle.std.specs.Prelude.{ℕ, Bool, cond, not, ◌&&◌, ◌||◌, List, [], ◌∷◌, ◌++◌, map, eqb, leb, ltb, length, take, drop}
+use Rattle.std.specs.Prelude.{ℕ, Bool, cond, not, ◌&&◌, ◌||◌, List, [], ◌∷◌, ◌++◌, map, eqb, leb, ltb, length, take, drop, Result, Ok, Err}
 use Rattle.std.specs.Int.Bits.{bit_or}
 use Rattle.words.specs.Word.{bit, popcount}
 use Rattle.words.specs.Loop.{some, joined}
@@ -14,8 +14,8 @@ use Rattle.scan.specs.declared.set.Set.{Set}
 use Rattle.scan.specs.Set.{most_reads, most_outputs, read_point, output_point, rank, outs}
 use Rattle.scan.specs.Names.{name_bytes}
 use Rattle.scan.specs.Shape.{well_formed}
-use Rattle.text.specs.declared.printing.TextPut.{TextPut}
-use Rattle.text.specs.declared.printing.TextPut.TheVariants.{Put, BadSet, Short}
+use Rattle.shape.specs.declared.putting.PutError.{PutError}
+use Rattle.shape.specs.declared.putting.PutError.TheVariants.{BadSet, Short}
 use Rattle.text.specs.Grammar.{output_word, sensor_word, past_word, of_word, rest_word, never_word, and_word, on_word, off_word, rank_word, end_word}
 
 -- ---- the words of points
@@ -122,11 +122,11 @@ text_of s = lines_text (shown_lines s)
 -- ---- putting it into a buffer
 
 -- 20; 24 with the length needed where the buffer has fewer bytes; or the length
-unfoldable pub text_answer : Set → ℕ → TextPut
+unfoldable pub text_answer : Set → ℕ → Result ℕ PutError
 text_answer s room =
     let needed = length (text_of s) in
-    cond (not (well_formed s)) BadSet
-    (cond (ltb room needed) (Short needed) (Put needed))
+    cond (not (well_formed s)) (Err BadSet)
+    (cond (ltb room needed) (Err (Short needed)) (Ok needed))
 
 -- the text at the front and later bytes as they were; on a refusal the buffer as it was
 unfoldable pub buffer_after : Set → List ℕ → List ℕ

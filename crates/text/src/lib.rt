@@ -7,5 +7,5 @@ mod lines; // a line for each point, output at rest and constraint
 mod printing; // the whole text into a lent buffer
 mod told; // the number of each answer
 
-pub use printing::{TextPut, put_text};
+pub use printing::put_text;
 pub use told::number_of;

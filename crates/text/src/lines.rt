@@ -34,11 +34,9 @@ pub fn put_outputs(
     ensures { Within buf.old at (outputs_bytes outputs n) buf.new result }
 {
     let mut place = at;
-    let mut j: usize = 0;
-    while j < n {
+    for j in 0..n {
         let p = outputs[j];
         place = put_output(&mut *buf, place, p);
-        j = j + 1;
     }
     place
 }
@@ -108,11 +106,9 @@ pub fn put_reads<'a>(
     ensures { Within buf.old at (reads_bytes reads.now outputs.now points r) buf.new result }
 {
     let mut place = at;
-    let mut k: usize = 0;
-    while k < r {
+    for k in 0..r {
         let p = points[k];
         place = put_read(&mut *buf, place, p, reads, outputs);
-        k = k + 1;
     }
     place
 }
@@ -134,10 +130,8 @@ pub fn put_rests(buf: &mut [u8], at: usize, rest: u16, outputs: &[[u8; NAME_PLAC
     ensures { Within buf.old at (rests_bytes outputs.now rest) buf.new result }
 {
     let mut place = at;
-    let mut k: usize = 0;
-    while k < MOST_OUTPUTS {
+    for k in 0..MOST_OUTPUTS {
         place = put_rest(&mut *buf, place, bit16(k, rest), outputs, k);
-        k = k + 1;
     }
     place
 }
@@ -172,11 +166,9 @@ pub fn put_constraints<'a>(
     ensures { Within buf.old at (constraints_bytes reads.now outputs.now constraints m) buf.new result }
 {
     let mut place = at;
-    let mut i: usize = 0;
-    while i < m {
+    for i in 0..m {
         let c = constraints[i];
         place = put_constraint(&mut *buf, place, c, reads, outputs);
-        i = i + 1;
     }
     place
 }

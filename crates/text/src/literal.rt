@@ -81,8 +81,7 @@ fn put_literals<'a>(
 {
     let mut place = at;
     let mut others = begun;
-    let mut k: usize = 0;
-    while k < ranks.len() {
+    for k in 0..ranks.len() {
         let there = bit32(k, named);
         place = put_literal(
             &mut *buf,
@@ -96,7 +95,6 @@ fn put_literals<'a>(
             ranks[k],
         );
         others = either(others, there);
-        k = k + 1;
     }
     place
 }

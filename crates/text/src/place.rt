@@ -5,7 +5,7 @@ ghost use Rattle.decimal.specs.Decimal.{decimal};
 ghost use Rattle.text.specs.Text.{spaced_words};
 ghost use Rattle.text.specs.way.Place.{next, Within};
 
-use decimal::{MOST_DIGITS, digits_of};
+use decimal::digits_of;
 use scan::NAME_PLACES;
 use shape::name_length;
 
@@ -36,10 +36,8 @@ pub fn put_bytes(buf: &mut [u8], at: usize, bytes: &[u8]) -> usize
     ensures { Within buf.old at bytes.now buf.new result }
 {
     let mut place = at;
-    let mut k: usize = 0;
-    while k < bytes.len() {
-        place = put_byte(&mut *buf, place, bytes[k]);
-        k = k + 1;
+    for b in bytes {
+        place = put_byte(&mut *buf, place, *b);
     }
     place
 }
@@ -76,7 +74,5 @@ pub fn put_number(buf: &mut [u8], at: usize, n: u8) -> usize
     ensures { Within buf.old at (spaced_words (decimal n ∷ [])) buf.new result }
 {
     let digits = digits_of(n as usize);
-    let bytes = digits.bytes;
-    let from = digits.at;
-    put_word(&mut *buf, at, &bytes[from..MOST_DIGITS])
+    put_word(&mut *buf, at, digits.as_slice())
 }

@@ -7,30 +7,22 @@ ghost use Rattle.text.specs.way.Place.{Within};
 use super::lines::{put_constraints, put_outputs, put_reads, put_rests};
 use super::place::put_bytes;
 use scan::Set;
-use shape::{names_of_outputs, names_of_reads, well_formed};
+use shape::{PutError, names_of_outputs, names_of_reads, well_formed};
 
-// The length of the text; or that the set is not well formed; or the length needed, where the buffer is shorter.
-#[derive(Clone, Copy)]
-pub enum TextPut {
-    Put(usize),
-    BadSet,
-    Short(usize),
-}
-
-// The text of the set at the front of the buffer, later bytes untouched; on a refusal the buffer is untouched.
-pub fn put_text(set: Set, buf: &mut [u8]) -> TextPut
+// The text of the set at the front of the buffer, later bytes untouched, and its length; on a refusal the buffer is untouched.
+pub fn put_text(set: Set, buf: &mut [u8]) -> Result<usize, PutError>
     ensures value { result ≡ text_answer set (length buf.old) }
     ensures buf_after { buf.new ≡ buffer_after set buf.old }
 {
     if !well_formed(set) {
-        return TextPut::BadSet;
+        return Err(PutError::BadSet);
     }
     let needed = text_length(set);
     if buf.len() < needed {
-        return TextPut::Short(needed);
+        return Err(PutError::Short(needed));
     }
     put_lines(buf, set);
-    TextPut::Put(needed)
+    Ok(needed)
 }
 
 // The length of the text.

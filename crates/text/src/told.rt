@@ -2,15 +2,15 @@
 ghost use Rattle.std.specs.Prelude.{◌≡◌, get_or};
 ghost use Rattle.text.specs.Told.{text_told};
 
-use super::printing::TextPut;
+use shape::PutError;
 
 // The number of an answer: 20 or 24, and 0 for one that is no refusal.
-pub fn number_of(answer: TextPut) -> u8
+pub fn number_of(answer: Result<usize, PutError>) -> u8
     ensures { result ≡ get_or (text_told answer) 0 0 }
 {
     match answer {
-        TextPut::Put(_) => 0,
-        TextPut::BadSet => 20,
-        TextPut::Short(_) => 24,
+        Ok(_) => 0,
+        Err(PutError::BadSet) => 20,
+        Err(PutError::Short(_)) => 24,
     }
 }

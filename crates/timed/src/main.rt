@@ -7,21 +7,39 @@ ghost use Rattle.std.specs.Prelude.{◌<◌};
 use loader::LoadAnswer;
 use machine::ScanAnswer;
 use scan::{MOST_CONSTRAINTS, MOST_OUTPUTS, Set, State};
+use shape::PutError;
 use std::io;
 use std::io::Read;
 use verdict::Verdict;
-use writer::Written;
 
 // The operations.
-const JUDGE: u8 = 1;
+#[derive(Clone, Copy, PartialEq, Eq)]
+enum Operation {
+    Judge,
+    Scan,
+    Load,
+    Write,
+    Text,
+}
 
-const SCAN: u8 = 2;
+// No operation has the number.
+#[derive(Clone, Copy, PartialEq, Eq)]
+struct NoOperation;
 
-const LOAD: u8 = 3;
+impl TryFrom<u8> for Operation {
+    type Error = NoOperation;
 
-const WRITE: u8 = 4;
-
-const TEXT: u8 = 5;
+    fn try_from(number: u8) -> Result<Self, NoOperation> {
+        match number {
+            1 => Ok(Operation::Judge),
+            2 => Ok(Operation::Scan),
+            3 => Ok(Operation::Load),
+            4 => Ok(Operation::Write),
+            5 => Ok(Operation::Text),
+            _ => Err(NoOperation),
+        }
+    }
+}
 
 // The longest file that is read, and room for any that is written.
 const MOST_FILE: usize = 8192;
@@ -70,7 +88,7 @@ fn mix_scan(sum: u32, answer: ScanAnswer) -> u32 {
     }
 }
 
-fn mix_written(sum: u32, written: Written) -> u32 {
+fn mix_written(sum: u32, written: Result<usize, PutError>) -> u32 {
     mix8(sum, writer::number_of(written))
 }
 
@@ -89,12 +107,13 @@ fn mix_set(sum: u32, set: Set, turn: u32) -> u32 {
     mix(rested, four(a[0], a[7], b[0], c.ranks[k]))
 }
 
-fn judge_often(set: Set, times: u32, scratch: &mut [u8]) -> u32 {
+// The checksum of so many turns. A turn is handed the checksum and how many turns are left with it, and returns the checksum with its answer.
+fn sum_often<F: FnMut(u32, u32) -> u32>(times: u32, mut turn: F) -> u32
+    requires { F.IsAlwaysCallable turn }
+{
     let mut sum = SUM_BEGIN;
-    let mut left = times;
-    while 0 < left {
-        sum = mix_verdict(sum, verdict::judge(set, &mut *scratch));
-        left = left - 1;
+    for left in (1..=times).rev() {
+        sum = turn(sum, left);
     }
     sum
 }
@@ -102,27 +121,17 @@ fn judge_often(set: Set, times: u32, scratch: &mut [u8]) -> u32 {
 // The list of scans, `times` times, each scan of the state that the one before returned.
 fn scan_often(start: State, times: u32, calls: &[u8]) -> u32 {
     let mut state = start;
-    let mut sum = SUM_BEGIN;
-    let mut left = times;
-    while 0 < left {
-        let mut i: usize = 0;
-        while i < calls.len() {
-            if SCAN_BYTES <= calls.len() - i {
-                let sensor = four(calls[i], calls[i + 1], calls[i + 2], calls[i + 3]);
-                let request = two(calls[i + 4], calls[i + 5]);
-                let scanned = machine::scan(state, sensor, request);
-                let answer = scanned.answer;
-                let next = scanned.state;
-                sum = mix_scan(sum, answer);
-                state = next;
-                i = i + SCAN_BYTES;
-            } else {
-                i = calls.len();
+    sum_often(times, |before, _| {
+        let mut sum = before;
+        for call in calls.chunks_exact(SCAN_BYTES) {
+            if let [a, b, c, d, high, low] = *call {
+                let scanned = machine::scan(state, four(a, b, c, d), two(high, low));
+                sum = mix_scan(sum, scanned.answer);
+                state = scanned.state;
             }
         }
-        left = left - 1;
-    }
-    sum
+        sum
+    })
 }
 
 // The next bytes of the input at the front of the buffer.
@@ -157,16 +166,6 @@ fn mix_loaded(sum: u32, file: &[u8], turn: u32) -> u32 {
     }
 }
 
-fn load_often(file: &[u8], times: u32) -> u32 {
-    let mut sum = SUM_BEGIN;
-    let mut left = times;
-    while 0 < left {
-        sum = mix_loaded(sum, file, left);
-        left = left - 1;
-    }
-    sum
-}
-
 fn mix_byte(sum: u32, buf: &[u8], at: usize) -> u32 {
     if at < buf.len() {
         mix8(sum, buf[at])
@@ -175,62 +174,46 @@ fn mix_byte(sum: u32, buf: &[u8], at: usize) -> u32 {
     }
 }
 
-// The set written over and over into one buffer. A byte of it, another one at each turn, goes into the checksum.
-fn write_often(set: Set, times: u32, buf: &mut [u8]) -> u32 {
-    let mut sum = SUM_BEGIN;
-    let mut left = times;
-    while 0 < left {
-        sum = mix_written(sum, writer::write(set, &mut *buf));
-        sum = mix_byte(sum, &*buf, (left % 8192) as usize);
-        left = left - 1;
-    }
-    sum
-}
-
-// With room for the file of any set.
-fn write_set(set: Set, times: u32) -> u32 {
+// The set written over and over into one buffer, with room for the file of any set. A byte of it, another one at each turn, goes into the checksum.
+fn write_often(set: Set, times: u32) -> u32 {
     let mut buf = [0u8; MOST_FILE];
-    write_often(set, times, &mut buf)
+    sum_often(times, |sum, left| {
+        let told = mix_written(sum, writer::write(set, &mut buf));
+        mix_byte(told, &buf, (left % 8192) as usize)
+    })
 }
 
 // The set's text put over and over into one buffer, in the same way.
-fn text_often(set: Set, times: u32, buf: &mut [u8]) -> u32 {
-    let mut sum = SUM_BEGIN;
-    let mut left = times;
-    while 0 < left {
-        sum = mix8(sum, text::number_of(text::put_text(set, &mut *buf)));
-        sum = mix_byte(sum, &*buf, (left % 4096) as usize);
-        left = left - 1;
-    }
-    sum
-}
-
-// With room for the text of any set.
-fn text_set(set: Set, times: u32) -> u32 {
+fn text_often(set: Set, times: u32) -> u32 {
     let mut buf = bytes_io::large_buffer();
-    text_often(set, times, &mut buf)
+    sum_often(times, |sum, left| {
+        let told = mix8(sum, text::number_of(text::put_text(set, &mut buf)));
+        mix_byte(told, &buf, (left % 4096) as usize)
+    })
 }
 
-fn do_often<R: Read>(input: &mut R, operation: u8, times: u32, file: &[u8]) -> u32 {
+fn judge_often(set: Set, times: u32, scratch: &mut [u8]) -> u32 {
+    sum_often(
+        times,
+        |sum, _| mix_verdict(sum, verdict::judge(set, &mut *scratch)),
+    )
+}
+
+fn load_often(file: &[u8], times: u32) -> u32 {
+    sum_often(times, |sum, left| mix_loaded(sum, file, left))
+}
+
+fn do_often<R: Read>(input: &mut R, operation: Operation, times: u32, file: &[u8]) -> u32 {
     let mut lent = bytes_io::buffer();
     let loaded = loader::load(file);
     let set = loaded.set;
-    if operation == JUDGE {
-        return judge_often(set, times, &mut lent);
+    match operation {
+        Operation::Judge => judge_often(set, times, &mut lent),
+        Operation::Scan => scan_set(input, set, times, &mut lent),
+        Operation::Load => load_often(file, times),
+        Operation::Write => write_often(set, times),
+        Operation::Text => text_often(set, times),
     }
-    if operation == SCAN {
-        return scan_set(input, set, times, &mut lent);
-    }
-    if operation == LOAD {
-        return load_often(file, times);
-    }
-    if operation == WRITE {
-        return write_set(set, times);
-    }
-    if operation == TEXT {
-        return text_set(set, times);
-    }
-    0
 }
 
 fn main(rt: HostRuntime) -> io::Result<()> {
@@ -242,7 +225,10 @@ fn main(rt: HostRuntime) -> io::Result<()> {
     let len = two(head[5], head[6]) as usize;
     fill(&mut input, &mut file, len);
     if len <= MOST_FILE {
-        let sum = do_often(&mut input, head[0], times, &file[0..len]);
+        let sum = match Operation::try_from(head[0]) {
+            Ok(operation) => do_often(&mut input, operation, times, &file[0..len]),
+            Err(NoOperation) => 0,
+        };
         println!(rt; "{sum}")?;
     }
     Ok(())

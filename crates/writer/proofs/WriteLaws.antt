@@ -23,7 +23,8 @@ use Rattle.scan.specs.Names.{name_bytes}
 use Rattle.scan.specs.Shape.{well_formed}
 use Rattle.writer.specs.Write.{field_of, kind_bytes, read_body, output_body, constraint_tag, literal_body, read_tag, output_tag, fields_of, rest_body, rest_field, write_of, write_answer, buffer_after}
 use Rattle.writer.specs.way.Write.{read_fields, output_fields, constraint_fields, put_at, Put}
-use Rattle.writer.specs.declared.writer.Written.TheVariants.{Wrote, BadSet, Short}
+use Rattle.std.specs.Prelude.{Ok, Err}
+use Rattle.shape.specs.declared.putting.PutError.TheVariants.{BadSet, Short}
 
 -- ---- bytes in a buffer
 
@@ -272,21 +273,21 @@ module _ (s : Set) (room : ℕ) (fits : 0 + length (write_of s) ≤ room) where
 -- ---- the answer
 
 module _ (s : Set) (buf : List ℕ) where
-  pub bad_set : well_formed s ≡ false → (BadSet ≡ write_answer s (length buf)) × (buf ≡ buffer_after s buf)
+  pub bad_set : well_formed s ≡ false → (Err BadSet ≡ write_answer s (length buf)) × (buf ≡ buffer_after s buf)
   unfolding write_answer buffer_after
   bad_set e = (sym (simp e), sym (simp e))
 
   module _ (ok : well_formed s ≡ true) (needed : ℕ) (e : needed ≡ length (write_of s)) where
-    pub too_short : length buf < needed → (Short needed ≡ write_answer s (length buf)) × (buf ≡ buffer_after s buf)
+    pub too_short : length buf < needed → (Err (Short needed) ≡ write_answer s (length buf)) × (buf ≡ buffer_after s buf)
     unfolding write_answer buffer_after
     too_short h =
         let lt : ltb (length buf) (length (write_of s)) ≡ true = lt-ltb (length buf) (length (write_of s)) (omega arith) in
         let le : leb (length (write_of s)) (length buf) ≡ false = lt-leb (length (write_of s)) (length buf) (omega arith) in
-        (ap Short e ∙ sym (simp (ok, lt)), sym (simp (ok, le)))
+        (ap (λ (k : ℕ). Err (Short k)) e ∙ sym (simp (ok, lt)), sym (simp (ok, le)))
 
-    pub written : needed ≤ length buf → (after : List ℕ) → after ≡ put_at buf 0 (write_of s) → (Wrote needed ≡ write_answer s (length buf)) × (after ≡ buffer_after s buf)
+    pub written : needed ≤ length buf → (after : List ℕ) → after ≡ put_at buf 0 (write_of s) → (Ok needed ≡ write_answer s (length buf)) × (after ≡ buffer_after s buf)
     unfolding write_answer buffer_after
     written h after a =
         let lt : ltb (length buf) (length (write_of s)) ≡ false = le-ltb (length buf) (length (write_of s)) (omega arith) in
         let le : leb (length (write_of s)) (length buf) ≡ true = le-leb (length (write_of s)) (length buf) (omega arith) in
-        (ap Wrote e ∙ sym (simp (ok, lt)), a ∙ ap (λ (k : ℕ). write_of s ++ drop k buf) (zero-add (length (write_of s))) ∙ sym (simp (ok, le)))
+        (ap (λ (k : ℕ). Ok k) e ∙ sym (simp (ok, lt)), a ∙ ap (λ (k : ℕ). write_of s ++ drop k buf) (zero-add (length (write_of s))) ∙ sym (simp (ok, le)))

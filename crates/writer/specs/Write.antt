@@ -1,6 +1,6 @@
 -- Writing: the file of a set, the answer, and the buffer at exit.
 -- Assumes nothing.
-use Rattle.std.specs.Prelude.{ℕ, ◌+◌, ◌/◌, ◌%◌, Bool, cond, not, ◌&&◌, List, [], ◌∷◌, ◌++◌, eqb, leb, ltb, length, take, drop}
+use Rattle.std.specs.Prelude.{ℕ, ◌+◌, ◌/◌, ◌%◌, Bool, cond, not, ◌&&◌, List, [], ◌∷◌, ◌++◌, eqb, leb, ltb, length, take, drop, Result, Ok, Err}
 use Rattle.words.specs.Loop.{joined}
 use Rattle.words.specs.Word.{bit}
 use Rattle.scan.specs.declared.set.Kind.{Kind}
@@ -13,8 +13,8 @@ use Rattle.scan.specs.Set.{most_reads, most_outputs, rank}
 use Rattle.scan.specs.Names.{name_bytes}
 use Rattle.scan.specs.Shape.{well_formed}
 use Rattle.header.specs.Tag.{tag_by, names_high}
-use Rattle.writer.specs.declared.writer.Written.{Written}
-use Rattle.writer.specs.declared.writer.Written.TheVariants.{Wrote, BadSet, Short}
+use Rattle.shape.specs.declared.putting.PutError.{PutError}
+use Rattle.shape.specs.declared.putting.PutError.TheVariants.{BadSet, Short}
 
 -- ---- the file
 
@@ -96,11 +96,11 @@ write_of s =
 -- ---- writing it into a buffer
 
 -- 20; 24 with the length needed where the buffer has fewer bytes; or the length
-unfoldable pub write_answer : Set → ℕ → Written
+unfoldable pub write_answer : Set → ℕ → Result ℕ PutError
 write_answer s room =
     let needed = length (write_of s) in
-    cond (not (well_formed s)) BadSet
-    (cond (ltb room needed) (Short needed) (Wrote needed))
+    cond (not (well_formed s)) (Err BadSet)
+    (cond (ltb room needed) (Err (Short needed)) (Ok needed))
 
 -- the file at the front and later bytes as they were; on a refusal the buffer as it was
 unfoldable pub buffer_after : Set → List ℕ → List ℕ

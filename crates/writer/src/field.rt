@@ -65,10 +65,8 @@ fn put_name(buf: &mut [u8], at: usize, name: [u8; NAME_PLACES], len: usize) -> u
     requires { (len ≡ length (name_bytes name)) × (at + length (name_bytes name) ≤ length buf.old) }
     ensures { Put buf.old at (name_bytes name) buf.new result }
 {
-    let mut k: usize = 0;
-    while k < len {
+    for k in 0..len {
         buf[at + k] = name[k];
-        k = k + 1;
     }
     at + len
 }

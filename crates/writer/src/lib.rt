@@ -6,4 +6,4 @@ mod writer; // the whole file into a lent buffer
 mod told; // the numbers of its answers
 
 pub use told::number_of;
-pub use writer::{Written, write};
+pub use writer::write;

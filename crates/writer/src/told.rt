@@ -2,15 +2,15 @@
 ghost use Rattle.std.specs.Prelude.{◌≡◌, get_or};
 ghost use Rattle.writer.specs.Told.{write_told};
 
-use super::writer::Written;
+use shape::PutError;
 
 // 0 where the file was written; else the refusal.
-pub fn number_of(written: Written) -> u8
+pub fn number_of(written: Result<usize, PutError>) -> u8
     ensures { result ≡ get_or (write_told written) 0 0 }
 {
     match written {
-        Written::Wrote(_) => 0,
-        Written::BadSet => 20,
-        Written::Short(_) => 24,
+        Ok(_) => 0,
+        Err(PutError::BadSet) => 20,
+        Err(PutError::Short(_)) => 24,
     }
 }

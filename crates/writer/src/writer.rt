@@ -10,30 +10,22 @@ use super::field::{
 };
 use header::TAG_END;
 use scan::{Constraint, MOST_CONSTRAINTS, MOST_OUTPUTS, MOST_READS, OutputPoint, ReadPoint, Set};
-use shape::{name_length, well_formed};
+use shape::{PutError, name_length, well_formed};
 
-// The length of the file; or that the set is not well formed; or the length needed, where the buffer is shorter.
-#[derive(Clone, Copy)]
-pub enum Written {
-    Wrote(usize),
-    BadSet,
-    Short(usize),
-}
-
-// The file of the set at the front of the buffer, later bytes untouched; on a refusal the buffer is untouched.
-pub fn write(set: Set, buf: &mut [u8]) -> Written
+// The file of the set at the front of the buffer, later bytes untouched, and its length; on a refusal the buffer is untouched.
+pub fn write(set: Set, buf: &mut [u8]) -> Result<usize, PutError>
     ensures value { result ≡ write_answer set (length buf.old) }
     ensures buf_after { buf.new ≡ buffer_after set buf.old }
 {
     if !well_formed(set) {
-        return Written::BadSet;
+        return Err(PutError::BadSet);
     }
     let needed = file_length(set);
     if buf.len() < needed {
-        return Written::Short(needed);
+        return Err(PutError::Short(needed));
     }
     put_file(buf, set);
-    Written::Wrote(needed)
+    Ok(needed)
 }
 
 // The length of the file.
@@ -55,12 +47,10 @@ fn reads_length(reads: [ReadPoint; MOST_READS], r: usize) -> usize
     ensures { (result ≡ length (read_fields reads r)) × (result ≤ most_reads * (5 + name_places)) }
 {
     let mut len: usize = 0;
-    let mut k: usize = 0;
-    while k < r {
+    for k in 0..r {
         let p = reads[k];
         let name = p.name;
         len = len + 5 + name_length(name);
-        k = k + 1;
     }
     len
 }
@@ -70,12 +60,10 @@ fn outputs_length(outputs: [OutputPoint; MOST_OUTPUTS], n: usize) -> usize
     ensures { (result ≡ length (output_fields outputs n)) × (result ≤ most_outputs * (3 + name_places)) }
 {
     let mut len: usize = 0;
-    let mut j: usize = 0;
-    while j < n {
+    for j in 0..n {
         let p = outputs[j];
         let name = p.name;
         len = len + 3 + name_length(name);
-        j = j + 1;
     }
     len
 }
@@ -92,11 +80,9 @@ fn constraints_length(constraints: [Constraint; MOST_CONSTRAINTS], m: usize) -> 
     ensures { (result ≡ length (constraint_fields constraints m)) × (result ≤ most_constraints * (3 + 3 * (most_reads + most_outputs))) }
 {
     let mut len: usize = 0;
-    let mut i: usize = 0;
-    while i < m {
+    for i in 0..m {
         let c = constraints[i];
         len = len + 3 + body_length(c);
-        i = i + 1;
     }
     len
 }
@@ -107,11 +93,9 @@ fn put_reads(buf: &mut [u8], at: usize, reads: [ReadPoint; MOST_READS], r: usize
     ensures { Put buf.old at (read_fields reads r) buf.new result }
 {
     let mut next = at;
-    let mut k: usize = 0;
-    while k < r {
+    for k in 0..r {
         let p = reads[k];
         next = put_read(&mut *buf, next, p);
-        k = k + 1;
     }
     next
 }
@@ -122,11 +106,9 @@ fn put_outputs(buf: &mut [u8], at: usize, outputs: [OutputPoint; MOST_OUTPUTS], 
     ensures { Put buf.old at (output_fields outputs n) buf.new result }
 {
     let mut next = at;
-    let mut j: usize = 0;
-    while j < n {
+    for j in 0..n {
         let p = outputs[j];
         next = put_output(&mut *buf, next, p);
-        j = j + 1;
     }
     next
 }
@@ -142,11 +124,9 @@ fn put_constraints(
     ensures { Put buf.old at (constraint_fields constraints m) buf.new result }
 {
     let mut next = at;
-    let mut i: usize = 0;
-    while i < m {
+    for i in 0..m {
         let c = constraints[i];
         next = put_constraint(&mut *buf, next, c);
-        i = i + 1;
     }
     next
 }

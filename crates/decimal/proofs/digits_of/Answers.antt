@@ -1,9 +1,9 @@
 -- `decimal::digits_of` meets its contract. The loop's invariant: what is left of the number, written before the bytes from `at` on, gives the digits.
-use Prim.Native.Nat.{◌-◌}
+use Prim.Native.Nat.{ℕ, ◌+◌, ◌-◌}
 use borrow.Author.Rules.{rules}
-use mathlib.Core.Path.{refl, ◌∙◌}
+use mathlib.Core.Path.{◌≡◌, refl, sym, ap, ◌∙◌}
 use native.Mathlib.Omega.{arith}
-use lib.ListN.{length-set}
+use lib.ListN.{drop, length-set}
 use Rattle.decimal.specs.Decimal.{last_digit}
 use Rattle.decimal.proofs.DecimalLaws.{digits_start, digits_more, digits_end, digits_full, zeros_before}
 use Rattle.decimal.proofs.digits_of.Goals as goal
@@ -12,7 +12,13 @@ pub loop-at-init : goal.loop-at-init
 loop-at-init c = (search rules, search rules, digits_start c.args.n, refl)
 
 pub returns-then-rest-eq0 : goal.returns-then-rest-eq0
-returns-then-rest-eq0 c = let l = c.loop-at in (omega arith, digits_end _ _ _ _ c.if-rest-eq0.true l.invariant.2, l.invariant.3)
+returns-then-rest-eq0 c =
+    let l = c.loop-at in
+    let same : l.at - 1 + 1 ≡ l.at = omega arith in (
+      omega arith,
+      ap (λ (k : ℕ). drop k l.bytes) same ∙ digits_end _ _ _ _ c.if-rest-eq0.true l.invariant.2,
+      rw same l.invariant.3,
+    )
 
 pub loop-at-preserved : goal.loop-at-preserved
 loop-at-preserved c =
@@ -24,4 +30,7 @@ loop-at-preserved c =
     )
 
 pub returns : goal.returns
-returns c = let l = c.loop-at in (omega arith, digits_full _ _ _ _ (omega arith) l.invariant.2, l.invariant.3)
+returns c =
+    let l = c.loop-at in
+    let end : l.at ≡ 0 = omega arith in
+    (omega arith, ap (λ (k : ℕ). drop k l.bytes) (sym end) ∙ digits_full _ _ _ _ end l.invariant.2, refl)

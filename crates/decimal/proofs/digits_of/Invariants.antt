@@ -9,6 +9,3 @@ use Rattle.decimal.proofs.digits_of.Given as goal
 
 abbrev pub invariant-loop-at : goal.invariant-loop-at
 invariant-loop-at l = (l.at ≤ 19) × (length l.bytes ≡ 20) × (leading l.at l.rest ++ drop l.at l.bytes ≡ decimal l.n) × (take l.at l.bytes ≡ replicate l.at 0)
-
-abbrev pub decreases-loop-at : goal.decreases-loop-at
-decreases-loop-at l = l.at

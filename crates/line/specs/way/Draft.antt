@@ -1,8 +1,9 @@
--- The code's way to a line: a draft of so many bytes.
+-- The code's way to a line: a word, and numbers one behind the other.
 -- Assumes nothing.
-use Rattle.std.specs.Prelude.{ℕ, List, take}
-use Rattle.line.specs.declared.draft.Draft.{Draft}
+use Rattle.std.specs.Prelude.{ℕ, List, [], ◌∷◌, ◌++◌}
+use Rattle.line.specs.Line.{spaced}
 
--- the bytes of a draft
-abbrev pub draft_bytes : Draft → List ℕ
-draft_bytes t = take t.len t.bytes
+-- a word and numbers, with one space before each
+abbrev pub numbered : List ℕ → List ℕ → List ℕ
+numbered word [] = word
+numbered word (n ∷ ns) = numbered (word ++ spaced n) ns

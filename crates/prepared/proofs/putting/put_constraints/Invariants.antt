@@ -1,7 +1,7 @@
 -- `prepared::putting::put_constraints` meets its contract. The invariant: the bytes passed are put, whatever the other parts of the set are. Assumes nothing.
 use mathlib.Core.Path.{◌≡◌}
 use mathlib.Core.List.{List}
-use Prim.Native.Nat.{◌≤◌, ◌-◌}
+use Prim.Native.Nat.{◌≤◌}
 use Rattle.scan.specs.declared.set.Constraint.{Constraint}
 use Rattle.scan.specs.declared.set.Set.{Set}
 use Rattle.prepared.proofs.PutLaws.{Putting}
@@ -13,6 +13,3 @@ With constraints s = s.constraints ≡ constraints
 
 abbrev pub invariant-loop-i : goal.invariant-loop-i
 invariant-loop-i l = (301 ≤ l.i) × (l.i ≤ 1837) × Putting (With l.constraints) 301 l.initial.out l.out l.i
-
-abbrev pub decreases-loop-i : goal.decreases-loop-i
-decreases-loop-i l = 1837 - l.i

@@ -1,6 +1,6 @@
 -- `prepared::said::reads_in` meets its contract. The invariant: the read points passed are made, with zeros behind them. Assumes nothing.
 use mathlib.Core.Path.{◌≡◌}
-use Prim.Native.Nat.{◌≤◌, ◌-◌}
+use Prim.Native.Nat.{◌≤◌}
 use Rattle.scan.specs.Set.{most_reads, zero_read}
 use Rattle.prepared.specs.Filled.{filled}
 use Rattle.prepared.specs.Said.{read_in}
@@ -8,6 +8,3 @@ use Rattle.prepared.proofs.said.reads_in.Given as goal
 
 abbrev pub invariant-loop-k : goal.invariant-loop-k
 invariant-loop-k l = (l.k ≤ l.end) × (l.end ≤ most_reads) × (l.reads ≡ filled most_reads zero_read (read_in l.b) l.k)
-
-abbrev pub decreases-loop-k : goal.decreases-loop-k
-decreases-loop-k l = l.end - l.k

@@ -1,38 +1,25 @@
--- `shape::names::name_length` meets its contract. The loop's invariant: none of the name's first k bytes is zero. Assumes nothing.
-use borrow.Author.Rules.{rules}
-use borrow.Author.Tests.{eq-eqb, ne_eqb}
-use mathlib.Core.Path.{◌≡◌}
+-- `shape::names::name_length` meets its contract. Assumes nothing.
+use mathlib.Core.Path.{◌≡◌, ◌∙◌}
+use Prim.Native.Nat.{ℕ}
 use native.Mathlib.Omega.{arith}
+use lib.Dec.{eqb}
 use lib.ListN.{length}
-use Rattle.words.proofs.LoopTurns.{missed_none, missed_one, missed_here, missed_all}
+use Rattle.std.proofs.Common.{rules, tests, Bool}
+use Rattle.std.proofs.lemmas.Iterator.{YieldsList-from_slice}
+use Rattle.std.proofs.lemmas.Iterator.Search.{position_from_yields_List}
+use Rattle.words.proofs.LoopLaws.{first_spec}
 use Rattle.scan.specs.Set.{name_places}
 use Rattle.scan.specs.Names.{zero_at}
 use Rattle.scan.proofs.NamesLaws.{name_ends}
+use Rattle.shape.proofs.ListTests.{place_or_end}
 use Rattle.shape.proofs.names.name_length.Goals as goal
-use Rattle.shape.proofs.names.name_length.Goals.{Start}
-
-name-long : (c : Start) → length c.args.name ≡ name_places
-name-long c = search rules
-
-pub loop-k-init : goal.loop-k-init
-loop-k-init c = missed_none name_places (zero_at c.args.name)
-
-pub returns-then-c-eq0 : goal.returns-then-c-eq0
-returns-then-c-eq0 c =
-    let a = c.args in
-    let l = c.loop-k in (
-      name_ends a.name l.k (omega (arith, name-long (goal.at.returns-then-c-eq0 c).Start)) (missed_here name_places (zero_at a.name) l.k l.invariant c.loop-k-test.true (eq-eqb _ _ c.if-c-eq0.true)),
-      omega arith,
-    )
-
-pub loop-k-preserved : goal.loop-k-preserved
-loop-k-preserved c =
-    let a = c.args in
-    let l = c.loop-k in
-    missed_one name_places (zero_at a.name) l.k l.invariant c.loop-k-test.true (ne_eqb _ _ c.if-c-eq0.false)
 
 pub returns : goal.returns
 returns c =
-    let a = c.args in
-    let l = c.loop-k in
-    (name_ends a.name name_places (omega (arith, name-long (goal.at.returns c).Start)) (missed_all name_places (zero_at a.name) l.k l.invariant c.loop-k-test.false), omega arith)
+    let name = c.args.name in
+    let zero : ℕ → Bool = λ x. eqb x 0 in
+    let long : length name ≡ name_places = search rules in
+    let e = c.unwrap_or.ensures
+    ∙ place_or_end zero 0 name name_places long _ (position_from_yields_List zero _ _ _ c.position.ensures.ran (YieldsList-from_slice name cc) (λ x b q k. search (rules, tests))) in
+    let w = (first_spec name_places (zero_at name)).within in
+    (name_ends name c.unwrap_or.result (omega arith) e, omega arith)

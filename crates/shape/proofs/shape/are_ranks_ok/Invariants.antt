@@ -1,5 +1,4 @@
 -- `shape::shape::are_ranks_ok` meets its contract. The loop's invariant: `ok` tells whether the ranks before k are right. Assumes nothing.
-use Prim.Native.Nat.{◌-◌}
 use Rattle.scan.specs.Set.{most_outputs}
 use Rattle.scan.specs.Shape.{rank_ok}
 use Rattle.words.proofs.LoopTurns.{Passed}
@@ -7,6 +6,3 @@ use Rattle.shape.proofs.shape.are_ranks_ok.Given as goal
 
 abbrev pub invariant-loop-k : goal.invariant-loop-k
 invariant-loop-k l = Passed most_outputs (rank_ok l.c) l.ok l.k
-
-abbrev pub decreases-loop-k : goal.decreases-loop-k
-decreases-loop-k l = most_outputs - l.k

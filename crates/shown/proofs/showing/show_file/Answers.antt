@@ -5,7 +5,7 @@ use Rattle.loader.specs.declared.loader.LoadAnswer.TheVariants.{Loaded as WasLoa
 use Rattle.line.specs.declared.printer.Line.TheVariants.{Load}
 use Rattle.line.specs.Line.{line_answer}
 use Rattle.shown.specs.Shown.{length_put}
-use Rattle.shown.proofs.ShownLaws.{length_told, after_told}
+use Rattle.shown.proofs.ShownLaws.{put_or_none, length_told, after_told}
 use Rattle.shown.proofs.showing.show_file.Goals as goal
 
 pub returns-in-Loaded : goal.returns-in-Loaded
@@ -14,7 +14,7 @@ returns-in-Loaded c =
     let t = p in
     let f = t in
     let a = f.args in
-    let file = a.file.now in record { value = c.length_of.ensures ∙ ap length_put p.put_text.ensures.value ∙ length_told file f.load-loaded.result f.load-loaded.ensures WasLoaded t.in-Loaded.is (length a.buf.now); buf_after = p.put_text.ensures.buf_after ∙ after_told file f.load-loaded.result f.load-loaded.ensures WasLoaded t.in-Loaded.is a.buf.now }
+    let file = a.file.now in record { value = c.unwrap_or.ensures ∙ put_or_none p.put_text.result ∙ ap length_put p.put_text.ensures.value ∙ length_told file f.load-loaded.result f.load-loaded.ensures WasLoaded t.in-Loaded.is (length a.buf.now); buf_after = p.put_text.ensures.buf_after ∙ after_told file f.load-loaded.result f.load-loaded.ensures WasLoaded t.in-Loaded.is a.buf.now }
 
 pub returns-in-Refused : goal.returns-in-Refused
 returns-in-Refused c =

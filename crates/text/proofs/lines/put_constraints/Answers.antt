@@ -41,9 +41,6 @@ put_constraint-place-requires c =
     let i = c in
     i.requires.1 i.loop-i.i i.loop-i-test.true
 
-pub overflow_add-i : goal.overflow_add-i
-overflow_add-i c = omega (arith, few (goal.at.overflow_add-i c).Start)
-
 pub loop-i-preserved : goal.loop-i-preserved
 loop-i-preserved c =
     let p = c in

@@ -1,6 +1,5 @@
 -- `text::lines::put_constraints` meets its contract. The loop's invariant: the lines of the first i constraints are put. Assumes nothing.
 use mathlib.Core.List.{map}
-use Prim.Native.Nat.{◌-◌}
 use lib.ListN.{take}
 use Rattle.text.specs.Text.{lines_text}
 use Rattle.text.specs.way.Place.{never_line_by}
@@ -9,6 +8,3 @@ use Rattle.text.proofs.lines.put_constraints.Given as goal
 
 abbrev pub invariant-loop-i : goal.invariant-loop-i
 invariant-loop-i l = Goes (λ j. lines_text (map (never_line_by l.reads l.outputs) (take j l.constraints))) l.m l.initial.buf l.at l.buf l.place l.i
-
-abbrev pub decreases-loop-i : goal.decreases-loop-i
-decreases-loop-i l = l.m - l.i

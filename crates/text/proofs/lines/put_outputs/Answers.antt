@@ -36,9 +36,6 @@ offset_bounds-outputs-j c = omega (arith, few (goal.at.offset_bounds-outputs-j c
 pub bounds-outputs-j : goal.bounds-outputs-j
 bounds-outputs-j c = omega (arith, few (goal.at.bounds-outputs-j c).Start)
 
-pub overflow_add-j : goal.overflow_add-j
-overflow_add-j c = omega (arith, few (goal.at.overflow_add-j c).Start)
-
 pub loop-j-preserved : goal.loop-j-preserved
 loop-j-preserved c =
     let p = c in

@@ -36,9 +36,6 @@ offset_bounds-points-k c = omega (arith, few (goal.at.offset_bounds-points-k c).
 pub bounds-points-k : goal.bounds-points-k
 bounds-points-k c = omega (arith, few (goal.at.bounds-points-k c).Start)
 
-pub overflow_add-k : goal.overflow_add-k
-overflow_add-k c = omega (arith, few (goal.at.overflow_add-k c).Start)
-
 pub loop-k-preserved : goal.loop-k-preserved
 loop-k-preserved c =
     let p = c in

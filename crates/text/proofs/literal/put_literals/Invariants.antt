@@ -2,7 +2,6 @@
 -- Assumes nothing.
 use mathlib.Core.Path.{◌≡◌}
 use mathlib.Core.Bool.{◌||◌}
-use Prim.Native.Nat.{◌-◌}
 use lib.ListN.{length}
 use Rattle.words.specs.Loop.{joined}
 use Rattle.text.specs.Text.{named_below, spaced_words}
@@ -13,6 +12,3 @@ use Rattle.text.proofs.literal.put_literals.Given as goal
 abbrev pub invariant-loop-k : goal.invariant-loop-k
 invariant-loop-k l =
     Goes (λ j. spaced_words (joined j (literal_at l.begun l.names l.plain l.named l.ranks l.several))) (length l.ranks) l.initial.buf l.at l.buf l.place l.k × (l.others ≡ (l.begun || named_below l.named l.k))
-
-abbrev pub decreases-loop-k : goal.decreases-loop-k
-decreases-loop-k l = length l.ranks - l.k

@@ -3,26 +3,26 @@ use lib.Seq.{take-length}
 use Rattle.text.proofs.PlaceLaws.{within_same, goes_none, goes_one, goes_all, goes_kept, bytes_grow}
 use Rattle.text.proofs.place.put_bytes.Goals as goal
 
-pub loop-k-init : goal.loop-k-init
-loop-k-init c = let a = c.args in goes_none (bytes_grow a.bytes.now) a.buf.now a.at
+pub loop-b-init : goal.loop-b-init
+loop-b-init c = let a = c.args in goes_none (bytes_grow a.bytes.now) a.buf.now a.at
 
-pub loop-k-preserved : goal.loop-k-preserved
-loop-k-preserved c =
+pub loop-b-preserved : goal.loop-b-preserved
+loop-b-preserved c =
     let p = c in
     let i = p in
-    let l = i.loop-k in
+    let l = i.loop-b in
     let a = i.args in
-    goes_one (bytes_grow a.bytes.now) a.buf.now a.at l.buf l.place l.k _ _ l.invariant i.loop-k-test.true p.put_byte-place.ensures
+    goes_one (bytes_grow a.bytes.now) a.buf.now a.at l.buf l.place l.b-index _ _ l.invariant i.loop-b-test.true p.put_byte-place.ensures
 
 pub shape_of-buf : goal.shape_of-buf
 shape_of-buf c =
-    let l = c.loop-k in
+    let l = c.loop-b in
     let a = c.args in
-    goes_kept (bytes_grow a.bytes.now) a.buf.now a.at l.buf l.place l.k l.invariant
+    goes_kept (bytes_grow a.bytes.now) a.buf.now a.at l.buf l.place l.b-index l.invariant
 
 pub returns : goal.returns
 returns c =
-    let l = c.loop-k in
+    let l = c.loop-b in
     let a = c.args in
     within_same a.buf.now a.at _ a.bytes.now l.buf l.place (take-length a.bytes.now)
-    (goes_all (bytes_grow a.bytes.now) a.buf.now a.at l.buf l.place l.k l.invariant c.loop-k-test.false)
+    (goes_all (bytes_grow a.bytes.now) a.buf.now a.at l.buf l.place l.b-index l.invariant c.loop-b-test.false)

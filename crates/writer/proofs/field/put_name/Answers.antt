@@ -41,9 +41,6 @@ overflow_add-buf c = omega (arith, c.requires, c.well_formed)
 pub bounds-buf-at : goal.bounds-buf-at
 bounds-buf-at c = omega (arith, kept (goal.at.bounds-buf-at c).At-loop-k, c.requires)
 
-pub overflow_add-k : goal.overflow_add-k
-overflow_add-k c = omega (arith, short (goal.at.overflow_add-k c).Start)
-
 pub loop-k-preserved : goal.loop-k-preserved
 loop-k-preserved c =
     let a = c.args in

@@ -34,9 +34,6 @@ body_length-requires c =
 pub overflow_add-len-in-loop-i : goal.overflow_add-len-in-loop-i
 overflow_add-len-in-loop-i c = omega (arith, c.requires.0, c.body_length.ensures.1)
 
-pub overflow_add-i : goal.overflow_add-i
-overflow_add-i c = omega (arith, c.requires.0)
-
 pub loop-i-preserved : goal.loop-i-preserved
 loop-i-preserved c =
     let s = c in

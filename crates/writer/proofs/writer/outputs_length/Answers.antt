@@ -30,9 +30,6 @@ overflow_add-len c = omega (arith, c.requires)
 pub overflow_add-len-in-loop-j : goal.overflow_add-len-in-loop-j
 overflow_add-len-in-loop-j c = omega (arith, c.requires, c.name_length.ensures.1)
 
-pub overflow_add-j : goal.overflow_add-j
-overflow_add-j c = omega (arith, c.requires)
-
 pub loop-j-preserved : goal.loop-j-preserved
 loop-j-preserved c =
     let s = c in

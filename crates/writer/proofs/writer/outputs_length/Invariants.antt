@@ -1,6 +1,6 @@
 -- `writer::writer::outputs_length` meets its contract. The loop's invariant: `len` is the length of the fields of the first j outputs.
 -- Assumes nothing.
-use Prim.Native.Nat.{◌+◌, ◌-◌, ◌*◌, ◌≤◌}
+use Prim.Native.Nat.{◌+◌, ◌*◌, ◌≤◌}
 use Rattle.scan.specs.Set.{name_places}
 use Rattle.writer.specs.way.Write.{output_fields}
 use Rattle.writer.proofs.WriteLaws.{Counted}
@@ -8,6 +8,3 @@ use Rattle.writer.proofs.writer.outputs_length.Given as goal
 
 abbrev pub invariant-loop-j : goal.invariant-loop-j
 invariant-loop-j l = Counted (output_fields l.outputs) l.n l.len l.j × (l.len ≤ (3 + name_places) * l.j)
-
-abbrev pub decreases-loop-j : goal.decreases-loop-j
-decreases-loop-j l = l.n - l.j

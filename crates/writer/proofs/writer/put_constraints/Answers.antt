@@ -35,9 +35,6 @@ put_constraint-next-requires c =
     let h = c.loop-i-test.true in
     (s.requires.1 l.i h, puts_room (constraints_grow a.constraints a.m (few (goal.at.put_constraint-next-requires c).Start)) a.buf.now a.at s.requires.2 l.buf l.next l.i l.invariant h)
 
-pub overflow_add-i : goal.overflow_add-i
-overflow_add-i c = omega (arith, c.requires.0)
-
 pub loop-i-preserved : goal.loop-i-preserved
 loop-i-preserved c =
     let s = c in

@@ -34,9 +34,6 @@ put_output-next-requires c =
     let l = c.loop-j in
     puts_room (outputs_grow a.outputs a.n (few (goal.at.put_output-next-requires c).Start)) a.buf.now a.at s.requires.1 l.buf l.next l.j l.invariant c.loop-j-test.true
 
-pub overflow_add-j : goal.overflow_add-j
-overflow_add-j c = omega (arith, c.requires.0)
-
 pub loop-j-preserved : goal.loop-j-preserved
 loop-j-preserved c =
     let s = c in

@@ -34,9 +34,6 @@ put_read-next-requires c =
     let l = c.loop-k in
     puts_room (reads_grow a.reads a.r (few (goal.at.put_read-next-requires c).Start)) a.buf.now a.at s.requires.1 l.buf l.next l.k l.invariant c.loop-k-test.true
 
-pub overflow_add-k : goal.overflow_add-k
-overflow_add-k c = omega (arith, c.requires.0)
-
 pub loop-k-preserved : goal.loop-k-preserved
 loop-k-preserved c =
     let s = c in

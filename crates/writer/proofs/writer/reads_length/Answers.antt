@@ -30,9 +30,6 @@ overflow_add-len c = omega (arith, c.requires)
 pub overflow_add-len-in-loop-k : goal.overflow_add-len-in-loop-k
 overflow_add-len-in-loop-k c = omega (arith, c.requires, c.name_length.ensures.1)
 
-pub overflow_add-k : goal.overflow_add-k
-overflow_add-k c = omega (arith, c.requires)
-
 pub loop-k-preserved : goal.loop-k-preserved
 loop-k-preserved c =
     let s = c in

@@ -1,9 +1,0 @@
--- `load_often` ends, since each turn leaves fewer times.
-use Rattle.std.proofs.Common.{◌≤◌}
-use Rattle.timed.proofs.load_often.Given as goal
-
-abbrev pub invariant-loop-left : goal.invariant-loop-left
-invariant-loop-left l = 0 ≤ l.left
-
-abbrev pub decreases-loop-left : goal.decreases-loop-left
-decreases-loop-left l = l.left
