@@ -1,24 +1,17 @@
 // What the programs read with: buffers, and reading until one is full.
 #![tactic(auto)]
 
-ghost use Rattle.std.specs.Prelude.{◌≡◌, length, take};
+ghost use Rattle.std.specs.Prelude.{◌≡◌, length, replicate, take};
 ghost use Rattle.std.specs.Io.KnownBytes.{Consumes};
 ghost use Rattle.bytes_io.specs.Counts.{IsPrefixLen};
 
 use std::io::Read;
 
-// 4,096 zeros.
-pub fn buffer() -> [u8; 4096]
-    ensures { 4096 ≡ length result }
+// A buffer of zeros.
+pub fn zeros<const N: usize>() -> [u8; N]
+    ensures { result ≡ replicate N 0 }
 {
-    [0; 4096]
-}
-
-// 65,536 zeros.
-pub fn large_buffer() -> [u8; 65536]
-    ensures { 65536 ≡ length result }
-{
-    [0; 65536]
+    [0; N]
 }
 
 // Reads until the buffer is full, the input ends or a read fails, and returns how many bytes it put at the front of the buffer.

@@ -1,6 +1,6 @@
 // What a set and a state are made of.
 ghost use Rattle.std.specs.Prelude.{◌≡◌};
-ghost use Rattle.scan.specs.Set.{zero_read, zero_output, zero_constraint, zero_set};
+ghost use Rattle.scan.specs.Set.{zero_set};
 
 // The most read points, outputs, read points and outputs together, and constraints; the byte places of a name.
 pub const MOST_READS: usize = 20;
@@ -27,9 +27,19 @@ pub struct ReadPoint {
     pub name: [u8; NAME_PLACES],
 }
 
+impl ReadPoint {
+    // A read point of zeros.
+    pub const ZERO: ReadPoint = ReadPoint { kind: Kind::Sensor, name: [0; NAME_PLACES] };
+}
+
 #[derive(Clone, Copy)]
 pub struct OutputPoint {
     pub name: [u8; NAME_PLACES],
+}
+
+impl OutputPoint {
+    // An output of zeros.
+    pub const ZERO: OutputPoint = OutputPoint { name: [0; NAME_PLACES] };
 }
 
 // A product of literals: masks of the points named plain and negated, bit k being point k, and the rank of each output named.
@@ -40,6 +50,17 @@ pub struct Constraint {
     pub out_plain: u16,
     pub out_negated: u16,
     pub ranks: [u8; MOST_OUTPUTS],
+}
+
+impl Constraint {
+    // A constraint of zeros.
+    pub const ZERO: Constraint = Constraint {
+        read_plain: 0,
+        read_negated: 0,
+        out_plain: 0,
+        out_negated: 0,
+        ranks: [0; MOST_OUTPUTS],
+    };
 }
 
 // r read points, n outputs and m constraints; the rest word, whose bit k says that output k counts as on before the first scan. The places beyond the
@@ -64,53 +85,17 @@ pub struct State {
     pub accepted: bool,
 }
 
-fn zero_read() -> ReadPoint
-    ensures { result ≡ zero_read }
-{
-    let name = [0u8; NAME_PLACES];
-    ReadPoint {
-        kind: Kind::Sensor,
-        name,
-    }
-}
-
-fn zero_output() -> OutputPoint
-    ensures { result ≡ zero_output }
-{
-    let name = [0u8; NAME_PLACES];
-    OutputPoint { name }
-}
-
-fn zero_constraint() -> Constraint
-    ensures { result ≡ zero_constraint }
-{
-    let ranks = [0u8; MOST_OUTPUTS];
-    Constraint {
-        read_plain: 0,
-        read_negated: 0,
-        out_plain: 0,
-        out_negated: 0,
-        ranks,
-    }
-}
-
 // The set with every field zero.
 pub fn zero_set() -> Set
     ensures { result ≡ zero_set }
 {
-    let read = zero_read();
-    let output = zero_output();
-    let constraint = zero_constraint();
-    let reads = [read; MOST_READS];
-    let outputs = [output; MOST_OUTPUTS];
-    let constraints = [constraint; MOST_CONSTRAINTS];
     Set {
         r: 0,
         n: 0,
         m: 0,
         rest: 0,
-        reads,
-        outputs,
-        constraints,
+        reads: [ReadPoint::ZERO; MOST_READS],
+        outputs: [OutputPoint::ZERO; MOST_OUTPUTS],
+        constraints: [Constraint::ZERO; MOST_CONSTRAINTS],
     }
 }

@@ -1,4 +1,5 @@
 // Numbers as bit words: bit k of a word is its binary digit k. Every function is total: a number past a word's width is a case like the others.
+// A function for each width: a trait over the widths would say each body again, and its contract would speak of the number that a word stands for.
 #![tactic(auto)]
 
 ghost use Rattle.std.specs.Prelude.{◌≡◌, Bool, ◌^◌, min, ltb};
@@ -58,7 +59,7 @@ pub fn without16(x: u16, y: u16) -> u16
 }
 
 // Whether every bit of plain is set in w, and none of negated.
-fn meets32(plain: u32, negated: u32, w: u32) -> bool
+pub fn meets16(plain: u16, negated: u16, w: u16) -> bool
     ensures { result ≡ meets plain negated w }
 {
     if w & plain == plain {
@@ -66,10 +67,4 @@ fn meets32(plain: u32, negated: u32, w: u32) -> bool
     } else {
         false
     }
-}
-
-pub fn meets16(plain: u16, negated: u16, w: u16) -> bool
-    ensures { result ≡ meets plain negated w }
-{
-    meets32(plain as u32, negated as u32, w as u32)
 }

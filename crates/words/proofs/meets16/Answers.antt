@@ -1,6 +1,6 @@
--- `words::meets32` meets its contract. Assumes nothing.
+-- `words::meets16` meets its contract. Assumes nothing.
 use Rattle.words.proofs.BitLaws.{meets_rest, meets_not}
-use Rattle.words.proofs.meets32.Goals as goal
+use Rattle.words.proofs.meets16.Goals as goal
 
 pub returns-then-w-plain : goal.returns-then-w-plain
 returns-then-w-plain c =
