@@ -19,16 +19,10 @@ const MOST_JUDGED: usize = 8192;
 // Room for any file that is written.
 const MOST_FILE: usize = 8192;
 
-fn least(a: usize, b: usize) -> usize
-    ensures { result ≤ a }
-{
-    if a < b { a } else { b }
-}
-
 // The verdict program's line of a file.
 pub fn line_of(file: &[u8]) -> Line {
-    let mut scratch = bytes_io::buffer();
-    let n = least(file.len(), MOST_JUDGED);
+    let mut scratch = bytes_io::zeros::<4096>();
+    let n = file.len().min(MOST_JUDGED);
     line::judge_file(&file[0..n], &mut scratch)
 }
 
@@ -108,7 +102,7 @@ fn print_rejected(rt: &impl Print, v: Verdict) -> io::Result<()> {
 // The start with just the scratch that the verdict needs.
 fn start_exact(set: Set) -> Started {
     let mut scratch = [0u8; MOST_SCRATCH];
-    let bytes = least(MOST_SCRATCH, verdict::scratch_bytes(set.n));
+    let bytes = MOST_SCRATCH.min(verdict::scratch_bytes(set.n));
     start::start(set, &mut scratch[0..bytes])
 }
 

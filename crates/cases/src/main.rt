@@ -58,8 +58,8 @@ fn print_case_of(rt: &impl Print, kind: u8, file: &[u8], more: &[u8]) -> io::Res
 
 // A case of a file and another record; whether both were there.
 fn print_file_case<R: Read>(rt: &impl Print, input: &mut R, kind: u8) -> io::Result<bool> {
-    let mut file = bytes_io::large_buffer();
-    let mut more = bytes_io::buffer();
+    let mut file = bytes_io::zeros::<65536>();
+    let mut more = bytes_io::zeros::<4096>();
     let n = record(&mut *input, &mut file);
     let m = record(input, &mut more);
     if n <= 65535 {
@@ -73,9 +73,9 @@ fn print_file_case<R: Read>(rt: &impl Print, input: &mut R, kind: u8) -> io::Res
 
 // A case of a set, words and names; whether all were there.
 fn print_set_case<R: Read>(rt: &impl Print, input: &mut R) -> io::Result<bool> {
-    let mut set = bytes_io::buffer();
-    let mut words = bytes_io::buffer();
-    let mut names = bytes_io::buffer();
+    let mut set = bytes_io::zeros::<4096>();
+    let mut words = bytes_io::zeros::<4096>();
+    let mut names = bytes_io::zeros::<4096>();
     let s = record(&mut *input, &mut set);
     let w = record(&mut *input, &mut words);
     let n = record(input, &mut names);

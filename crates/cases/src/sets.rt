@@ -141,7 +141,7 @@ fn set_of(bytes: &[u8]) -> Set {
 
 // Writing's answer and, where the set has a file, the sum of the whole buffer, in which a file of more bytes leaves its zeros.
 fn print_file_of(rt: &impl Print, set: Set) -> io::Result<()> {
-    let mut buf = bytes_io::buffer();
+    let mut buf = bytes_io::zeros::<4096>();
     let written = writer::write(set, &mut buf);
     print_written(rt, b'/', written)?;
     match written {
@@ -151,7 +151,7 @@ fn print_file_of(rt: &impl Print, set: Set) -> io::Result<()> {
 }
 
 fn print_verdict_of(rt: &impl Print, set: Set) -> io::Result<()> {
-    let mut scratch = bytes_io::buffer();
+    let mut scratch = bytes_io::zeros::<4096>();
     print_verdict(rt, b'/', verdict::judge(set, &mut scratch))
 }
 

@@ -1,7 +1,7 @@
 // Choices and tests as values, so that loops have no branches.
 #![tactic(auto)]
 
-ghost use Rattle.std.specs.Prelude.{◌≡◌, cond, ◌&&◌, ◌||◌, min};
+ghost use Rattle.std.specs.Prelude.{◌≡◌, cond, ◌&&◌, ◌||◌};
 
 // Whether both tests passed.
 pub fn both(a: bool, b: bool) -> bool
@@ -17,16 +17,9 @@ pub fn either(a: bool, b: bool) -> bool
     if a { true } else { b }
 }
 
-// x if the test passed, else 0.
-pub fn keep32(test: bool, x: u32) -> u32
-    ensures { result ≡ cond test x 0 }
+// x if the test passed, else y.
+pub fn pick<T: Copy>(test: bool, x: T, y: T) -> T
+    ensures { result ≡ cond test x y }
 {
-    if test { x } else { 0 }
-}
-
-// The lesser of the two.
-pub fn least(x: usize, y: usize) -> usize
-    ensures { result ≡ min x y }
-{
-    if x < y { x } else { y }
+    if test { x } else { y }
 }

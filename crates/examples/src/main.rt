@@ -41,7 +41,7 @@ fn say_front(rt: &impl Print, buf: &[u8], len: usize) -> io::Result<()> {
 
 // The verdict program's line.
 fn say_line(rt: &impl Print, file: &[u8]) -> io::Result<()> {
-    let mut scratch = bytes_io::buffer();
+    let mut scratch = bytes_io::zeros::<4096>();
     let mut out = [0u8; 80];
     let told = line::judge_file(file, &mut scratch);
     let len = line::put_line(told, &mut out);
@@ -73,14 +73,14 @@ fn say_same(rt: &impl Print, shown: &[u8], len: usize, text: &[u8]) -> io::Resul
 
 // What is shown of the file, and whether it is the text.
 fn say_shown(rt: &impl Print, file: &[u8], text: &[u8]) -> io::Result<()> {
-    let mut out = bytes_io::large_buffer();
+    let mut out = bytes_io::zeros::<65536>();
     let len = shown::show_file(file, &mut out);
     say_same(rt, &out, len, text)
 }
 
 fn say_pair(rt: &(impl Files + Print), set: &[u8], text: &[u8]) -> io::Result<()> {
     let mut file = [0u8; MOST_FILE];
-    let mut own = bytes_io::large_buffer();
+    let mut own = bytes_io::zeros::<65536>();
     let n = read_file(rt, set, &mut file);
     let m = read_file(rt, text, &mut own);
     say(rt, set)?;
@@ -108,8 +108,8 @@ fn has_argument(rt: &impl Env, i: usize) -> bool {
 
 // The pair of arguments from number i on.
 fn say_arguments(rt: &(impl Files + Env + Print), i: usize) -> io::Result<()> {
-    let mut set = bytes_io::buffer();
-    let mut text = bytes_io::buffer();
+    let mut set = bytes_io::zeros::<4096>();
+    let mut text = bytes_io::zeros::<4096>();
     if i < MOST_PAIRS * 2 {
         let n = read_argument(rt, i, &mut set);
         let m = read_argument(rt, i + 1, &mut text);

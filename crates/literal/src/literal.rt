@@ -5,7 +5,7 @@ ghost use Rattle.header.specs.Tag.{literal_size};
 ghost use Rattle.literal.specs.Literal.{is_output, is_negated, spare, four_bits, narrow, six_bits, wide, place, is_literal, last_literal, literals_of};
 ghost use Rattle.literal.specs.way.Literal.{literal_at, said_at, sign_bits, in_word, of_word, literals_told};
 
-use choice::{both, least};
+use choice::both;
 use header::{Fault, literal_size, names_high};
 use scan::{Constraint, MOST_OUTPUTS, MOST_READS};
 
@@ -193,8 +193,8 @@ fn last_literal(
 fn literals_in(body: &[u8], wide: bool, r: usize, n: usize) -> Result<Constraint, Fault>
     ensures { literals_told result ≡ literals_of wide (min r most_reads) (min n most_outputs) body.now }
 {
-    let reads = least(r, MOST_READS);
-    let outputs = least(n, MOST_OUTPUTS);
+    let reads = r.min(MOST_READS);
+    let outputs = n.min(MOST_OUTPUTS);
     let size = literal_size(wide);
     let mut word = 0;
     let mut ranks = [0u8; MOST_OUTPUTS];

@@ -5,7 +5,7 @@ ghost use Rattle.scan.specs.Set.{most_reads};
 ghost use Rattle.machine.specs.Past.{sensor_before, reading, read_word};
 ghost use Rattle.machine.specs.Machine.{is_past};
 
-use choice::keep32;
+use choice::pick;
 use scan::{Kind, Set};
 use shape::is_sensor;
 
@@ -43,8 +43,8 @@ pub fn read_points(s: &Set, output: u16, sensor: u32, present: u32) -> ReadPoint
     let mut word: u32 = 0;
     for k in 0..s.r {
         let kind = s.reads[k].kind;
-        past |= keep32(!is_sensor(kind), 1 << k);
-        word |= keep32(reading_of(output, sensor, present, k, kind), 1 << k);
+        past |= pick(!is_sensor(kind), 1 << k, 0);
+        word |= pick(reading_of(output, sensor, present, k, kind), 1 << k, 0);
     }
     ReadPoints { past, word }
 }

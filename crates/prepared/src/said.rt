@@ -4,7 +4,6 @@ ghost use Rattle.scan.specs.Set.{most_reads, most_outputs, most_constraints, zer
 ghost use Rattle.prepared.specs.Said.{kind_from, two, four, name_in, ranks_in, read_in, output_in, constraint_in, first_of, set_said};
 
 use super::PREPARED_BYTES;
-use choice::least;
 use scan::{
     Constraint, Kind, MOST_CONSTRAINTS, MOST_OUTPUTS, MOST_READS, NAME_PLACES, OutputPoint,
     ReadPoint, Set,
@@ -121,7 +120,7 @@ fn reads_in(b: &[u8; PREPARED_BYTES], r: usize) -> [ReadPoint; MOST_READS]
     let name = [0u8; NAME_PLACES];
     let zero = ReadPoint { kind, name };
     let mut reads = [zero; MOST_READS];
-    let end = least(r, MOST_READS);
+    let end = r.min(MOST_READS);
     for k in 0..end {
         reads[k] = read_in(b, k);
     }
@@ -135,7 +134,7 @@ fn outputs_in(b: &[u8; PREPARED_BYTES], n: usize) -> [OutputPoint; MOST_OUTPUTS]
     let name = [0u8; NAME_PLACES];
     let zero = OutputPoint { name };
     let mut outputs = [zero; MOST_OUTPUTS];
-    let end = least(n, MOST_OUTPUTS);
+    let end = n.min(MOST_OUTPUTS);
     for j in 0..end {
         outputs[j] = output_in(b, j);
     }
@@ -155,7 +154,7 @@ fn constraints_in(b: &[u8; PREPARED_BYTES], m: usize) -> [Constraint; MOST_CONST
         ranks,
     };
     let mut constraints = [zero; MOST_CONSTRAINTS];
-    let end = least(m, MOST_CONSTRAINTS);
+    let end = m.min(MOST_CONSTRAINTS);
     for i in 0..end {
         constraints[i] = constraint_in(b, i);
     }

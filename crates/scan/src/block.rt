@@ -4,9 +4,8 @@ ghost use Rattle.std.specs.Prelude.{◌≡◌};
 ghost use Rattle.scan.specs.way.Block.{active_low, active_high, lows_of, high_at, active_in};
 
 use super::columns::Columns;
-use super::pick::keep64;
 use super::set::MOST_CONSTRAINTS;
-use choice::least;
+use choice::pick;
 
 // The read words of a block.
 pub const WORDS: usize = 8;
@@ -22,13 +21,14 @@ impl Columns {
     fn active_low(&self, w: u32) -> u64
         ensures { result ≡ active_low self.now.read_plain self.now.read_named self.now.m w }
     {
-        let end = least(self.m, MOST_CONSTRAINTS);
+        let end = self.m.min(MOST_CONSTRAINTS);
         let low = w % 8;
         let mut active: u64 = 0;
         for i in 0..end {
-            active |= keep64(
+            active |= pick(
                 low & self.read_named[i] % 8 == self.read_plain[i] % 8,
                 1 << i,
+                0,
             );
         }
         active
@@ -38,13 +38,14 @@ impl Columns {
     pub fn active_high(&self, w: u32) -> u64
         ensures { result ≡ active_high self.now.read_plain self.now.read_named self.now.m w }
     {
-        let end = least(self.m, MOST_CONSTRAINTS);
+        let end = self.m.min(MOST_CONSTRAINTS);
         let high = w / 8;
         let mut active: u64 = 0;
         for i in 0..end {
-            active |= keep64(
+            active |= pick(
                 high & self.read_named[i] / 8 == self.read_plain[i] / 8,
                 1 << i,
+                0,
             );
         }
         active

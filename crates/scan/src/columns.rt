@@ -3,9 +3,8 @@ ghost use Rattle.std.specs.Prelude.{◌≡◌};
 ghost use Rattle.scan.specs.way.Columns.{columns_of};
 
 use super::constraint::is_simple;
-use super::pick::keep64;
 use super::set::{MOST_CONSTRAINTS, Set};
-use choice::least;
+use choice::pick;
 
 // How many constraints there are; of each the read points named plain, all the read points named, the outputs named plain and those named negated; and which
 // constraints are simple, bit i being constraint i. The places beyond the constraints are zero. One array for each kind, for speed: a loop takes many places at once.
@@ -23,7 +22,7 @@ pub struct Columns {
 pub fn columns_of(set: &Set) -> Columns
     ensures { result ≡ columns_of set.now }
 {
-    let end = least(set.m, MOST_CONSTRAINTS);
+    let end = set.m.min(MOST_CONSTRAINTS);
     let mut read_plain = [0u32; MOST_CONSTRAINTS];
     let mut read_named = [0u32; MOST_CONSTRAINTS];
     let mut out_plain = [0u16; MOST_CONSTRAINTS];
@@ -35,7 +34,7 @@ pub fn columns_of(set: &Set) -> Columns
         read_named[i] = c.read_plain | c.read_negated;
         out_plain[i] = c.out_plain;
         out_negated[i] = c.out_negated;
-        simple |= keep64(is_simple(c), 1 << i);
+        simple |= pick(is_simple(c), 1 << i, 0);
     }
     Columns {
         m: set.m,

@@ -5,7 +5,6 @@ ghost use Rattle.scan.specs.way.Eight.{low_true, low_held, eight_of, safe_byte};
 
 use super::entries::{Entries, flip_if};
 use super::set::MOST_CONSTRAINTS;
-use choice::least;
 
 // Of each entry: what it asks of the outputs from 3 on, and the byte of its literals of outputs 0 to 2. The places beyond the entries are zero.
 #[derive(Clone, Copy)]
@@ -42,7 +41,7 @@ impl Entries {
     pub fn eight(&self) -> Eight
         ensures { result ≡ eight_of self.now.plain self.now.named self.now.count }
     {
-        let end = least(self.count, MOST_CONSTRAINTS);
+        let end = self.count.min(MOST_CONSTRAINTS);
         let mut plain = [0u16; MOST_CONSTRAINTS];
         let mut named = [0u16; MOST_CONSTRAINTS];
         let mut low = [0u16; MOST_CONSTRAINTS];

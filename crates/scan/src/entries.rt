@@ -8,7 +8,6 @@ ghost use Rattle.scan.specs.way.Entries.{entries_by};
 
 use super::columns::Columns;
 use super::set::MOST_CONSTRAINTS;
-use choice::least;
 
 // The entries below count: the outputs named plain, and all the outputs named. Two arrays, for speed: a loop takes many entries at once.
 // They are filled up to a multiple of sixteen with entries that are never true, so that a loop over them has no rest.
@@ -45,7 +44,7 @@ impl Entries {
     pub fn flips(&self, flip: &[u16; MOST_CONSTRAINTS], v: u16) -> u16
         ensures { result ≡ flips_over self.now.plain self.now.named flip.now self.now.count v }
     {
-        let end = least(self.count, MOST_CONSTRAINTS);
+        let end = self.count.min(MOST_CONSTRAINTS);
         let mut flips: u16 = 0;
         for i in 0..end {
             flips |= flip_if(v, self.plain[i], self.named[i], flip[i]);
@@ -57,7 +56,7 @@ impl Entries {
     fn is_any_true(&self, v: u16) -> bool
         ensures { result ≡ any_true self.now.plain self.now.named self.now.count v }
     {
-        let end = least(self.count, MOST_CONSTRAINTS);
+        let end = self.count.min(MOST_CONSTRAINTS);
         let mut found = false;
         for i in 0..end {
             found |= v & self.named[i] == self.plain[i];
@@ -82,7 +81,7 @@ impl Columns {
     pub fn enter(&self, entered: u64) -> Entries
         ensures { result ≡ entries_by self.now.out_plain self.now.out_negated self.now.m entered }
     {
-        let end = least(self.m, MOST_CONSTRAINTS);
+        let end = self.m.min(MOST_CONSTRAINTS);
         let mut plain = [NEVER; MOST_CONSTRAINTS];
         let mut named = [0u16; MOST_CONSTRAINTS];
         let mut count: usize = 0;

@@ -6,9 +6,8 @@ ghost use Rattle.scan.specs.Holds.{both_ways, reckoned, start_from};
 ghost use Rattle.scan.specs.way.Holds.{holds_by, holds_at, unheld_from, limit_by};
 
 use super::columns::{Columns, columns_of};
-use super::pick::keep16;
 use super::set::{MOST_CONSTRAINTS, Set};
-use choice::{both, least};
+use choice::{both, pick};
 
 // What the simple constraints force: the outputs held to 0 (F0) and to 1 (F1); or, where one is forced both ways, the lowest such output.
 #[derive(Clone, Copy)]
@@ -49,13 +48,13 @@ impl Columns {
     pub fn hold_by(&self, holding: u64) -> Holds
         ensures { result ≡ holds_by self.now.out_plain self.now.out_negated self.now.m holding }
     {
-        let end = least(self.m, MOST_CONSTRAINTS);
+        let end = self.m.min(MOST_CONSTRAINTS);
         let mut f0: u16 = 0;
         let mut f1: u16 = 0;
         for i in 0..end {
             let held = words::bit64(i, holding);
-            f0 |= keep16(held, self.out_plain[i]);
-            f1 |= keep16(held, self.out_negated[i]);
+            f0 |= pick(held, self.out_plain[i], 0);
+            f1 |= pick(held, self.out_negated[i], 0);
         }
         reckon(f0, f1)
     }

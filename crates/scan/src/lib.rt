@@ -1,7 +1,6 @@
 // The scan part of the ranked safety filter: what a set is, and the walk at a read word. It knows nothing of files and of the verdict.
 #![tactic(auto)]
 
-mod pick; // choices between words as values
 mod set; // what a set and a state are made of
 mod constraint; // one constraint
 mod columns; // the literals of the constraints, one array for each kind

@@ -3,9 +3,8 @@ ghost use Rattle.std.specs.Prelude.{◌≡◌, cond, ◌≤◌, ◌<◌, ◌^◌
 ghost use Rattle.scan.specs.Set.{most_outputs};
 ghost use Rattle.scan.specs.Pass.{lowest, has_rank, yielding};
 
-use super::pick::{keep16, least16, pick16};
 use super::set::{Constraint, MOST_OUTPUTS};
-use choice::both;
+use choice::{both, pick};
 
 // Above every rank.
 const NO_RANK: u16 = 256;
@@ -17,7 +16,7 @@ fn lowest_rank(c: Constraint, own: u16, n: usize) -> u16
 {
     let mut low: u16 = NO_RANK;
     for k in 0..n {
-        low = pick16(words::bit16(k, own), least16(low, c.ranks[k] as u16), low);
+        low = pick(words::bit16(k, own), low.min(c.ranks[k] as u16), low);
     }
     low
 }
@@ -27,7 +26,11 @@ fn yield_at(c: Constraint, own: u16, low: u16, k: usize) -> u16
     requires { k < most_outputs }
     ensures { result ≡ cond (has_rank c own low k) (2 ^ k) 0 }
 {
-    keep16(both(words::bit16(k, own), c.ranks[k] as u16 == low), 1 << k)
+    pick(
+        both(words::bit16(k, own), c.ranks[k] as u16 == low),
+        1 << k,
+        0,
+    )
 }
 
 // The outputs of `own`, of n, of the lowest rank among them.

@@ -29,7 +29,10 @@ pub struct ReadPoint {
 
 impl ReadPoint {
     // A read point of zeros.
-    pub const ZERO: ReadPoint = ReadPoint { kind: Kind::Sensor, name: [0; NAME_PLACES] };
+    pub const ZERO: ReadPoint = ReadPoint {
+        kind: Kind::Sensor,
+        name: [0; NAME_PLACES],
+    };
 }
 
 #[derive(Clone, Copy)]
@@ -39,7 +42,9 @@ pub struct OutputPoint {
 
 impl OutputPoint {
     // An output of zeros.
-    pub const ZERO: OutputPoint = OutputPoint { name: [0; NAME_PLACES] };
+    pub const ZERO: OutputPoint = OutputPoint {
+        name: [0; NAME_PLACES],
+    };
 }
 
 // A product of literals: masks of the points named plain and negated, bit k being point k, and the rank of each output named.

@@ -11,7 +11,6 @@ use super::entries::{Entries, NEVER, fill_up};
 use super::holds::{Holds, pass_limit, unheld_of};
 use super::pass::yielding_within;
 use super::set::{MOST_CONSTRAINTS, MOST_OUTPUTS, Set};
-use choice::least;
 
 // The holds, the most passes, the entries, and of each entry the outputs that yield.
 #[derive(Clone, Copy)]
@@ -26,8 +25,8 @@ pub struct Table {
 fn fill(s: &Set, h: Holds, entered: u64) -> Table
     ensures { result ≡ table_by s.now h entered }
 {
-    let m = least(s.m, MOST_CONSTRAINTS);
-    let n = least(s.n, MOST_OUTPUTS);
+    let m = s.m.min(MOST_CONSTRAINTS);
+    let n = s.n.min(MOST_OUTPUTS);
     let unheld = unheld_of(n, h);
     let mut plain = [NEVER; MOST_CONSTRAINTS];
     let mut named = [0u16; MOST_CONSTRAINTS];

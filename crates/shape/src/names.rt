@@ -5,7 +5,7 @@ ghost use Rattle.scan.specs.Names.{name_byte, all_name_bytes, length_ok, padded,
 ghost use Rattle.shape.specs.way.Names.{next_ok, first_name, name_used, ReadNames, OutputNames};
 ghost use Rattle.shape.specs.Spelling.{spelling};
 
-use choice::{both, either, least};
+use choice::{both, either};
 use scan::{MOST_OUTPUTS, MOST_READS, NAME_PLACES, OutputPoint, ReadPoint};
 
 // Whether a name may have the byte.
@@ -125,7 +125,7 @@ pub fn is_name_used<'a>(
 ) -> bool
     ensures { result ≡ name_used reads.now (min i most_reads) outputs.now (min j most_outputs) name }
 {
-    let a = least(i, MOST_READS);
-    let b = least(j, MOST_OUTPUTS);
+    let a = i.min(MOST_READS);
+    let b = j.min(MOST_OUTPUTS);
     either(first_of(reads, a, name) < a, first_of(outputs, b, name) < b)
 }

@@ -7,7 +7,7 @@ ghost use Rattle.scan.specs.Shape.{count_tests, is_sensor, read_zero, read_place
 ghost use Rattle.shape.specs.way.Shape.{sensors_of, kind_by, read_by, read_place_by, output_by, output_place_by};
 
 use super::names::{first_of, is_name, is_zero_name, names_of_outputs, names_of_reads};
-use choice::{both, either, keep32};
+use choice::{both, either, pick};
 use scan::{
     Constraint, Kind, MOST_CONSTRAINTS, MOST_OUTPUTS, MOST_POINTS, MOST_READS, NAME_PLACES,
     OutputPoint, ReadPoint, Set,
@@ -41,7 +41,7 @@ fn sensors_of(reads: [ReadPoint; MOST_READS]) -> u32
 {
     let mut w: u32 = 0;
     for k in 0..MOST_READS {
-        w |= keep32(is_sensor(reads[k].kind), 1u32 << k);
+        w |= pick(is_sensor(reads[k].kind), 1u32 << k, 0);
     }
     w
 }

@@ -7,7 +7,7 @@ fn main(rt: HostRuntime) -> io::Result<()> {
     let mut file = [0u8; 8192];
     let mut input = rt.reader();
     let n = bytes_io::read_full(&mut input, &mut file);
-    let mut out = bytes_io::large_buffer();
+    let mut out = bytes_io::zeros::<65536>();
     let len = shown::show_file(&file[..n], &mut out);
     rt.write_all(&out[..len])
 }

@@ -144,7 +144,7 @@ fn fill<R: Read>(input: &mut R, buf: &mut [u8], len: usize) {
 // The scans that follow on the input, from the set's start.
 fn scan_set<R: Read>(input: &mut R, set: Set, times: u32, scratch: &mut [u8]) -> u32 {
     let mut head = [0u8; 2];
-    let mut calls = bytes_io::buffer();
+    let mut calls = bytes_io::zeros::<4096>();
     bytes_io::read_full(&mut *input, &mut head);
     let len = two(head[0], head[1]) as usize * SCAN_BYTES;
     fill(input, &mut calls, len);
@@ -185,7 +185,7 @@ fn write_often(set: Set, times: u32) -> u32 {
 
 // The set's text put over and over into one buffer, in the same way.
 fn text_often(set: Set, times: u32) -> u32 {
-    let mut buf = bytes_io::large_buffer();
+    let mut buf = bytes_io::zeros::<65536>();
     sum_often(times, |sum, left| {
         let told = mix8(sum, text::number_of(text::put_text(set, &mut buf)));
         mix_byte(told, &buf, (left % 4096) as usize)
@@ -204,7 +204,7 @@ fn load_often(file: &[u8], times: u32) -> u32 {
 }
 
 fn do_often<R: Read>(input: &mut R, operation: Operation, times: u32, file: &[u8]) -> u32 {
-    let mut lent = bytes_io::buffer();
+    let mut lent = bytes_io::zeros::<4096>();
     let loaded = loader::load(file);
     let set = loaded.set;
     match operation {

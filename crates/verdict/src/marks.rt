@@ -7,14 +7,13 @@ ghost use Rattle.scan.specs.way.Eight.{safe_byte};
 ghost use Rattle.verdict.specs.Judge.{scratch_bytes};
 ghost use Rattle.verdict.specs.way.Marks.{marked, with_mark, marked_where, first_vectors, has_mark};
 
-use choice::least;
 use scan::{Eight, Entries, MOST_OUTPUTS, low_held};
 
 // The bytes of scratch that a verdict on a set of n outputs needs, one bit for each vector; for more outputs than a set has, those of the most.
 pub fn scratch_bytes(n: usize) -> usize
     ensures { result ≡ scratch_bytes (min n most_outputs) }
 {
-    let outputs = least(n, MOST_OUTPUTS);
+    let outputs = n.min(MOST_OUTPUTS);
     if outputs < 3 {
         1
     } else {

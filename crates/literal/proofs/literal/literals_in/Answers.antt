@@ -18,27 +18,27 @@ use Rattle.literal.proofs.literal.literals_in.Goals.{After-place_of-place, After
 
 -- where the loop stands, the whole body's literals are those of r read points and n outputs, or of the most where these are more
 whole : (c : At-loop-i) → let a = c.args in
-    literals_of a.wide c.least-reads.result c.least-outputs.result a.body.now ≡ literals_of a.wide (min a.r most_reads) (min a.n most_outputs) a.body.now
+    literals_of a.wide c.min-reads.result c.min-outputs.result a.body.now ≡ literals_of a.wide (min a.r most_reads) (min a.n most_outputs) a.body.now
 whole c =
     let a = c.args in
-    ap₂ (λ (j k : ℕ). literals_of a.wide j k a.body.now) c.least-reads.ensures c.least-outputs.ensures
+    ap₂ (λ (j k : ℕ). literals_of a.wide j k a.body.now) c.min-reads.ensures c.min-outputs.ensures
 
 -- the literals from the one that was said on
 told : (c : After-said_at-l) → let d = c in
     let a = d.args in
     let l = d.loop-i in
-    literals_of a.wide c.least-reads.result c.least-outputs.result a.body.now
-    ≡ literals_from a.wide c.least-reads.result c.least-outputs.result l.next (of_word l.word l.ranks) (c.said_at-l.result ∷ said_by a.wide (drop (l.i + literal_size a.wide) a.body.now))
+    literals_of a.wide c.min-reads.result c.min-outputs.result a.body.now
+    ≡ literals_from a.wide c.min-reads.result c.min-outputs.result l.next (of_word l.word l.ranks) (c.said_at-l.result ∷ said_by a.wide (drop (l.i + literal_size a.wide) a.body.now))
 told c =
     let d = c in
     let a = d.args in
     let l = d.loop-i in
-    here a.wide c.least-reads.result c.least-outputs.result l.next l.word l.ranks a.body.now l.i c.loop-i-test.true c.said_at-l.result c.said_at-l.ensures _ l.invariant
+    here a.wide c.min-reads.result c.min-outputs.result l.next l.word l.ranks a.body.now l.i c.loop-i-test.true c.said_at-l.result c.said_at-l.ensures _ l.invariant
 
 -- what `is_literal` said
 good : (c : Else-not-is_literal) → let q = c in
     let d = q in
-    is_literal q.said_at-l.result c.least-reads.result c.least-outputs.result ≡ true
+    is_literal q.said_at-l.result c.min-reads.result c.min-outputs.result ≡ true
 good c = sym c.is_literal.ensures ∙ c.if-not-is_literal.false
 
 -- the literal's number, and its place
@@ -46,7 +46,7 @@ fits : (c : Else-not-is_literal) → c.said_at-l.result.number < room c.said_at-
 fits c =
     let q = c in
     let d = q in
-    literal_fits_law q.said_at-l.result c.least-reads.result c.least-outputs.result (good c) (omega (arith, c.least-reads.ensures)) (omega (arith, c.least-outputs.ensures))
+    literal_fits_law q.said_at-l.result c.min-reads.result c.min-outputs.result (good c) (omega (arith, c.min-reads.ensures)) (omega (arith, c.min-outputs.ensures))
 
 within : (c : After-place_of-place) → c.said_at-l.result.number < room c.said_at-l.result.out → c.place_of-place.result < sign_bits
 within c f = rw c.place_of-place.ensures (place_below c.said_at-l.result f)
@@ -61,15 +61,15 @@ onward : (w : After-with_literal-word) → let q = w in
     let a = d.args in
     let l = d.loop-i in
     let s = q.said_at-l.result in
-    is_literal s d.least-reads.result d.least-outputs.result ≡ true → s.number < room s.out → (ranked : List ℕ) → cond s.out (set l.ranks s.number s.rank) l.ranks ≡ ranked → literals_of a.wide w.least-reads.result w.least-outputs.result a.body.now
-    ≡ literals_from a.wide w.least-reads.result w.least-outputs.result (w.place_of-place.result + 1) (of_word w.with_literal-word.result ranked) (said_by a.wide (drop (l.i + d.literal_size-size.result) a.body.now))
+    is_literal s d.min-reads.result d.min-outputs.result ≡ true → s.number < room s.out → (ranked : List ℕ) → cond s.out (set l.ranks s.number s.rank) l.ranks ≡ ranked → literals_of a.wide w.min-reads.result w.min-outputs.result a.body.now
+    ≡ literals_from a.wide w.min-reads.result w.min-outputs.result (w.place_of-place.result + 1) (of_word w.with_literal-word.result ranked) (said_by a.wide (drop (l.i + d.literal_size-size.result) a.body.now))
 onward w g f ranked own =
     let p = w in
     let q = p in
     let d = q in
     let a = d.args in
     let l = d.loop-i in
-    turned a.wide w.least-reads.result w.least-outputs.result l.next l.word l.ranks a.body.now l.i q.loop-i-test.true q.said_at-l.result q.said_at-l.ensures _ l.invariant
+    turned a.wide w.min-reads.result w.min-outputs.result l.next l.word l.ranks a.body.now l.i q.loop-i-test.true q.said_at-l.result q.said_at-l.ensures _ l.invariant
     g (rw p.place_of-place.ensures at w.if-place-next.false) f p.place_of-place.result p.place_of-place.ensures w.with_literal-word.result w.with_literal-word.ensures ranked own
     d.literal_size-size.result d.literal_size-size.ensures
 
@@ -81,7 +81,7 @@ returns-then-not-is_literal c =
     let q = c in
     let d = q in
     let l = d.loop-i in
-    sym (told (goal.at.returns-then-not-is_literal c).After-said_at-l ∙ not_literal d.args.wide c.least-reads.result c.least-outputs.result l.next (of_word l.word l.ranks) q.said_at-l.result _ (sym c.is_literal.ensures ∙ c.if-not-is_literal.true))
+    sym (told (goal.at.returns-then-not-is_literal c).After-said_at-l ∙ not_literal d.args.wide c.min-reads.result c.min-outputs.result l.next (of_word l.word l.ranks) q.said_at-l.result _ (sym c.is_literal.ensures ∙ c.if-not-is_literal.true))
     ∙ whole (goal.at.returns-then-not-is_literal c).At-loop-i
 
 pub place_of-place-requires : goal.place_of-place-requires
@@ -93,7 +93,7 @@ returns-then-place-next c =
     let q = p in
     let d = q in
     let l = d.loop-i in
-    sym (told (goal.at.returns-then-place-next c).After-said_at-l ∙ not_rising d.args.wide c.least-reads.result c.least-outputs.result l.next (of_word l.word l.ranks) q.said_at-l.result _ (good (goal.at.returns-then-place-next c).Else-not-is_literal) (rw p.place_of-place.ensures at c.if-place-next.true))
+    sym (told (goal.at.returns-then-place-next c).After-said_at-l ∙ not_rising d.args.wide c.min-reads.result c.min-outputs.result l.next (of_word l.word l.ranks) q.said_at-l.result _ (good (goal.at.returns-then-place-next c).Else-not-is_literal) (rw p.place_of-place.ensures at c.if-place-next.true))
     ∙ whole (goal.at.returns-then-place-next c).At-loop-i
 
 pub with_literal-word-requires : goal.with_literal-word-requires
@@ -138,4 +138,4 @@ returns c =
     let a = d.args in
     let l = d.loop-i in
     c.last_literal.ensures
-    ∙ sym (l.invariant ∙ literals_end a.wide c.least-reads.result c.least-outputs.result l.next (of_word l.word l.ranks) a.body.now l.i e.loop-i-test.false) ∙ whole (goal.at.returns c).At-loop-i
+    ∙ sym (l.invariant ∙ literals_end a.wide c.min-reads.result c.min-outputs.result l.next (of_word l.word l.ranks) a.body.now l.i e.loop-i-test.false) ∙ whole (goal.at.returns c).At-loop-i

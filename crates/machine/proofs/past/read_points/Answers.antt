@@ -28,8 +28,8 @@ loop-k-preserved c =
     let reads = reading_at a.s.now a.output a.sensor a.present in
     let is-past : not i.is_sensor.result ≡ past l.k = ap not i.is_sensor.ensures in
     let read : r.reading_of.result ≡ reads l.k = r.reading_of.ensures in (
-      word_turn past 32 l.k l.past f.keep32-past.result (not i.is_sensor.result) (omega arith) l.invariant.0 is-past f.keep32-past.ensures,
-      word_turn reads 32 l.k l.word c.keep32-word.result r.reading_of.result (omega arith) l.invariant.1 read c.keep32-word.ensures,
+      word_turn past 32 l.k l.past f.pick-past.result (not i.is_sensor.result) (omega arith) l.invariant.0 is-past f.pick-past.ensures,
+      word_turn reads 32 l.k l.word c.pick-word.result r.reading_of.result (omega arith) l.invariant.1 read c.pick-word.ensures,
     )
 
 pub returns : goal.returns

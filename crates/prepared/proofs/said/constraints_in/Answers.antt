@@ -20,5 +20,5 @@ pub returns : goal.returns
 returns c =
     let l = c.loop-i in
     let a = c.args in
-    let e : l.i ≡ min a.m most_constraints = omega (arith, c.least-end.ensures) in
+    let e : l.i ≡ min a.m most_constraints = omega (arith, c.min-end.ensures) in
     l.invariant.2 ∙ ap (filled most_constraints zero_constraint (constraint_in a.b.now)) e

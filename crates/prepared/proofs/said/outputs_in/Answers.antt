@@ -20,5 +20,5 @@ pub returns : goal.returns
 returns c =
     let l = c.loop-j in
     let a = c.args in
-    let e : l.j ≡ min a.n most_outputs = omega (arith, c.least-end.ensures) in
+    let e : l.j ≡ min a.n most_outputs = omega (arith, c.min-end.ensures) in
     l.invariant.2 ∙ ap (filled most_outputs zero_output (output_in a.b.now)) e

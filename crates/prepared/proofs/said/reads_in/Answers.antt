@@ -20,5 +20,5 @@ pub returns : goal.returns
 returns c =
     let l = c.loop-k in
     let a = c.args in
-    let e : l.k ≡ min a.r most_reads = omega (arith, c.least-end.ensures) in
+    let e : l.k ≡ min a.r most_reads = omega (arith, c.min-end.ensures) in
     l.invariant.2 ∙ ap (filled most_reads zero_read (read_in a.b.now)) e

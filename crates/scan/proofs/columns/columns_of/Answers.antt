@@ -35,8 +35,8 @@ loop-i-preserved c =
       places_more (of_each s reads_named) l.i _ l.read_named (omega arith) l.invariant.1 refl,
       places_more (of_each s (λ c. c.out_plain)) l.i _ l.out_plain (omega arith) l.invariant.2 refl,
       places_more (of_each s (λ c. c.out_negated)) l.i _ l.out_negated (omega arith) l.invariant.3 refl,
-      word_turn (simple_at s) 64 l.i l.simple c.keep64-simple.result q.is_simple.result (omega arith) l.invariant.4 q.is_simple.ensures
-          c.keep64-simple.ensures,
+      word_turn (simple_at s) 64 l.i l.simple c.pick-simple.result q.is_simple.result (omega arith) l.invariant.4 q.is_simple.ensures
+          c.pick-simple.ensures,
     )
 
 pub returns : goal.returns

@@ -33,8 +33,8 @@ loop-k-preserved c =
     let b = m in
     let l = b.loop-k in
     let a = b.args in
-    more a.c a.own l.k l.low m.least16.result c.pick16-low.result b.bit16.result
-    l.invariant b.bit16.ensures m.least16.ensures c.pick16-low.ensures
+    more a.c a.own l.k l.low m.min.result c.pick-low.result b.bit16.result
+    l.invariant b.bit16.ensures m.min.ensures c.pick-low.ensures
 
 pub returns : goal.returns
 returns c = c.loop-k.invariant ∙ ap (lowest c.args.c c.args.own) (omega arith)

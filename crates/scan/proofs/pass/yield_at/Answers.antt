@@ -14,5 +14,5 @@ returns c =
     let d = c in
     let e = d in
     let a = e.args in
-    c.keep16.ensures
+    c.pick.ensures
     ∙ (λ i. cond ((d.both.ensures ∙ ap (λ (x : Bool). x && eqb (rank a.c a.k) a.low) e.bit16.ensures) i) (one_shl 16 a.k (omega arith) i) 0)

@@ -64,9 +64,9 @@ yielding_within-requires c =
     let t = c in
     let u = t in
     let a = u.args in
-    let k = u.least-n.result in
+    let k = u.min-n.result in
     let own = outs (constraint a.s.now t.loop-i.i) in (
-      omega (arith, u.least-n.ensures),
+      omega (arith, u.min-n.ensures),
       lt_of_le_of_lt (and_le_r own u.unheld_of-unheld.result) (rw u.unheld_of-unheld.ensures (unheld-small k a.h)),
     )
 
@@ -80,7 +80,7 @@ loop-i-preserved c =
         omega (arith, w.count-is),
         (λ k. reached a.s.now a.h (w.count-is k) (w.plain-is k) (w.named-is k) (w.flip-is k))
             ∙ on a.s.now a.h a.entered l.i l.count l.plain l.named l.flip l.invariant.1 (sym c.bit64-on.ensures ∙ w.if-on.true)
-            c.least-n.result c.unheld_of-unheld.result w.yielding_within.result c.least-n.ensures c.unheld_of-unheld.ensures
+            c.min-n.result c.unheld_of-unheld.result w.yielding_within.result c.min-n.ensures c.unheld_of-unheld.ensures
             w.yielding_within.ensures,
       )
       | else-on w ↦ (
@@ -97,5 +97,5 @@ returns c =
     let u = p in
     let a = u.args in
     done a.s.now a.h a.entered l.i l.count l.plain l.named l.flip l.invariant.1
-    u.least-n.result u.unheld_of-unheld.result p.pass_limit.result c.fill_up.result u.least-n.ensures u.unheld_of-unheld.ensures
+    u.min-n.result u.unheld_of-unheld.result p.pass_limit.result c.fill_up.result u.min-n.ensures u.unheld_of-unheld.ensures
     p.pass_limit.ensures c.fill_up.ensures (omega arith)

@@ -20,5 +20,5 @@ returns c =
     let r = o in
     let b = r in
     let a = b in
-    used _ _ _ _ _ a.least-a.result b.least-b.result r.first_of.result o.first_of-2.result c.either.result
-    a.least-a.ensures b.least-b.ensures r.first_of.ensures o.first_of-2.ensures c.either.ensures
+    used _ _ _ _ _ a.min-a.result b.min-b.result r.first_of.result o.first_of-2.result c.either.result
+    a.min-a.ensures b.min-b.ensures r.first_of.ensures o.first_of-2.ensures c.either.ensures

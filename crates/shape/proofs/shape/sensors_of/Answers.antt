@@ -14,7 +14,7 @@ loop-k-init c = (omega arith, word_none _)
 pub loop-k-preserved : goal.loop-k-preserved
 loop-k-preserved c =
     let l = c.loop-k in
-    (omega arith, word_turn _ 32 l.k l.w c.keep32-w.result _ (omega arith) l.invariant.1 c.is_sensor.ensures c.keep32-w.ensures)
+    (omega arith, word_turn _ 32 l.k l.w c.pick-w.result _ (omega arith) l.invariant.1 c.is_sensor.ensures c.pick-w.ensures)
 
 pub returns : goal.returns
 returns c = c.loop-k.invariant.1 ∙ ap (λ (k : ℕ). word k (λ (j : ℕ). is_sensor (read_point c.args.reads j).kind)) (omega arith)

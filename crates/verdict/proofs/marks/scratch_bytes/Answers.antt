@@ -21,11 +21,11 @@ module _ (n : ℕ) where
 pub returns-then-outputs-lt3 : goal.returns-then-outputs-lt3
 returns-then-outputs-lt3 c =
     let l = c in
-    let least : l.least-outputs.result ≡ min l.args.n most_outputs = l.least-outputs.ensures in
-    one l.least-outputs.result c.if-outputs-lt3.true ∙ ap scratch_bytes least
+    let least : l.min-outputs.result ≡ min l.args.n most_outputs = l.min-outputs.ensures in
+    one l.min-outputs.result c.if-outputs-lt3.true ∙ ap scratch_bytes least
 
 pub returns-else-outputs-lt3 : goal.returns-else-outputs-lt3
 returns-else-outputs-lt3 c =
     let l = c in
-    let least : l.least-outputs.result ≡ min l.args.n most_outputs = l.least-outputs.ensures in
-    eighth l.least-outputs.result (omega (arith, c.if-outputs-lt3.false)) (omega (arith, least)) ∙ ap scratch_bytes least
+    let least : l.min-outputs.result ≡ min l.args.n most_outputs = l.min-outputs.ensures in
+    eighth l.min-outputs.result (omega (arith, c.if-outputs-lt3.false)) (omega (arith, least)) ∙ ap scratch_bytes least

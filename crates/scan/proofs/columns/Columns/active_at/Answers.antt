@@ -15,8 +15,8 @@ unfolding entry_true
 loop-i-preserved c =
     let l = c.loop-i in
     let a = c.args in
-    word_turn (entry_true a.self.now.read_plain a.self.now.read_named a.w) 64 l.i l.active c.keep64-active.result _ (omega arith) l.invariant refl
-    c.keep64-active.ensures
+    word_turn (entry_true a.self.now.read_plain a.self.now.read_named a.w) 64 l.i l.active c.pick-active.result _ (omega arith) l.invariant refl
+    c.pick-active.ensures
 
 pub returns : goal.returns
 unfolding active_by

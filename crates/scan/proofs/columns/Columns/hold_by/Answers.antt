@@ -26,10 +26,10 @@ loop-i-preserved c =
     let b = f in
     let l = b.loop-i in
     let a = b.args in (
-      kept_turn (kept_at a.self.now.out_plain a.holding) l.i l.f0 f.keep16-f0.result _ _ b.bit64-held.result _
-          l.invariant.0 b.bit64-held.ensures refl refl f.keep16-f0.ensures,
-      kept_turn (kept_at a.self.now.out_negated a.holding) l.i l.f1 c.keep16-f1.result _ _ b.bit64-held.result _
-          l.invariant.1 b.bit64-held.ensures refl refl c.keep16-f1.ensures,
+      kept_turn (kept_at a.self.now.out_plain a.holding) l.i l.f0 f.pick-f0.result _ _ b.bit64-held.result _
+          l.invariant.0 b.bit64-held.ensures refl refl f.pick-f0.ensures,
+      kept_turn (kept_at a.self.now.out_negated a.holding) l.i l.f1 c.pick-f1.result _ _ b.bit64-held.result _
+          l.invariant.1 b.bit64-held.ensures refl refl c.pick-f1.ensures,
     )
 
 pub returns : goal.returns
