@@ -2,7 +2,10 @@
 use mathlib.Core.Path.{◌≡◌, refl, sym, ap, ◌∙◌}
 use mathlib.Core.Bool.{true, false, not}
 use mathlib.Core.List.{List}
-use Prim.Native.Nat.{ℕ, ◌+◌, ◌^◌, ◌≤◌, ◌<◌}
+use Prim.Native.Nat.{ℕ, ◌+◌, ◌-◌, ◌^◌, ◌≤◌, ◌<◌, min}
+use native.Mathlib.Nat.{min-eq_left}
+use lib.Pow.{pow_mono, pow_pos}
+use Rattle.words.specs.Word.{low}
 use native.Mathlib.Omega.{arith}
 use lib.Bits.{bit_and}
 use borrow.Author.Tests.{not-true, not-false}
@@ -35,6 +38,10 @@ use Rattle.verdict.proofs.verdict.first_failing.Goals.{After-active_in-active, A
 
 few : (c : Start) → (c.args.set.now.r ≤ most_reads) × (c.args.set.now.n ≤ most_outputs)
 few c = let n = counts c.args.set.now c.requires.0 in (n.r_le, n.n_le)
+
+-- the low bits of n outputs, and one more, are 2 ^ n
+low16-told : (n r : ℕ) → r ≡ low (min n 16) → n ≤ most_outputs → r ≡ 2 ^ n - 1
+low16-told n r e few = e ∙ ap low (min-eq_left {m = 16} (omega arith))
 
 -- ---- a word, its active constraints, its table, its marks
 
@@ -100,18 +107,18 @@ overflow_cast-words c = omega (arith, few (goal.at.overflow_cast-words c).Start)
 pub overflow_shl-words : goal.overflow_shl-words
 overflow_shl-words c = omega (arith, few (goal.at.overflow_shl-words c).Start)
 
-pub overflow_cast-requests : goal.overflow_cast-requests
-overflow_cast-requests c = omega (arith, few (goal.at.overflow_cast-requests c).Start)
-
-pub overflow_shl-requests : goal.overflow_shl-requests
-overflow_shl-requests c = omega (arith, few (goal.at.overflow_shl-requests c).Start)
+pub overflow_add-requests : goal.overflow_add-requests
+overflow_add-requests c =
+    let n = c.args.set.now.n in
+    let f = (few (goal.at.overflow_add-requests c).Start).1 in
+    omega (arith, low16-told n c.low16-requests.result c.low16-requests.ensures f, pow_mono {i = n} {j = most_outputs} f)
 
 pub words-init : goal.words-init
 words-init c =
     let f = few (goal.at.words-init c).Start in
     let l = c.columns_of-by.result in (
       one_shl 32 c.args.set.now.r (omega (arith, f)),
-      one_shl 16 c.args.set.now.n (omega (arith, f)),
+      omega (arith, low16-told c.args.set.now.n c.low16-requests.result c.low16-requests.ensures f.1, pow_pos c.args.set.now.n),
       refl,
       c.requires.1,
       c.requires.2,
