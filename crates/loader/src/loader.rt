@@ -18,7 +18,7 @@ use scan::{
 use shape::{are_counts_ok, is_sensor};
 
 // A file was loaded; or the number of the refusal and the offset of the field's first byte.
-#[derive(Clone, Copy)]
+#[derive(Clone, Copy, Debug, PartialEq, Eq)]
 pub enum LoadAnswer {
     Loaded,
     Refused { number: u8, offset: usize },
