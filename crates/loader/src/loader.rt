@@ -153,6 +153,7 @@ fn constraints_at(s: &[u8], at: usize, r: usize, n: usize) -> Result<(Constraint
     let mut list = zero_constraints();
     let mut next = at;
     let mut m: usize = 0;
+    // No `for`: the end's field ends the loop, and the header's test bounds m.
     loop {
         let front = front_at(s, next, TAG_CONSTRAINT, m)?;
         let offset = front.at;

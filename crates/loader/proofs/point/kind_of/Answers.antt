@@ -42,5 +42,4 @@ returns-after-k-i c =
 pub returns-in_default : goal.returns-in_default
 returns-in_default c =
     let a = c.args in
-    let d = c.in_default in
     sym (kind_other a.n (not_past a.pasts.now) a.i a.index a.kind (search rules) (search rules) (search rules))
