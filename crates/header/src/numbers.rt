@@ -36,6 +36,7 @@ pub struct Refusal {
     pub offset: usize,
 }
 
+// No enum of tags: a field's tag may be any byte, and the table and the tests go by the byte.
 pub const TAG_COUNTS: u8 = 0x01;
 
 pub const TAG_READ: u8 = 0x02;

@@ -190,6 +190,7 @@ fn last_literal(
 }
 
 // The literals of a body, one loop for both forms.
+// No `for` over `body.chunks(size)`: it proves, but loading the longest files takes 7 and 16 % more instructions.
 fn literals_in(body: &[u8], wide: bool, r: usize, n: usize) -> Result<Constraint, Fault>
     ensures { literals_told result ≡ literals_of wide (min r most_reads) (min n most_outputs) body.now }
 {

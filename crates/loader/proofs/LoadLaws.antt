@@ -1,14 +1,14 @@
 -- Cases of the definitions of a load, one law for each outcome.
 -- Assumes nothing.
-use mathlib.Core.Path.{◌≡◌, refl, sym, ◌∙◌, ap, ap₂}
-use mathlib.Core.Bool.{Bool, true, false, not, ◌&&◌}
+use mathlib.Core.Path.{◌≡◌, refl, sym, ◌∙◌, ap}
+use mathlib.Core.Bool.{Bool, true, false, ◌&&◌}
 use mathlib.Core.List.{List}
 use Prim.Native.Nat.{ℕ, ◌+◌, ◌-◌, ◌≤◌, ◌<◌}
 use native.Mathlib.Omega.{arith}
 use lib.Dec.{ltb, eqb, lit<}
 use lib.ListN.{length, get_or, take, drop, length-drop, length-take}
 use lib.Seq.{take_all, drop-drop, get_or-take, get_or-drop}
-use borrow.Author.Tests.{lt-ltb, ne_eqb}
+use borrow.Author.Tests.{ne_eqb}
 use Rattle.words.specs.Loop.{every}
 use Rattle.scan.specs.declared.set.Kind.{Kind}
 use Rattle.scan.specs.declared.set.Kind.TheVariants.{Sensor, PastOutput, PastSensor}
@@ -106,11 +106,6 @@ module _ (n : ℕ) (sensor : ℕ → Bool) (i index : ℕ) where
   pub kind_2 : kind_of n sensor i 2 index ≡ kind_if (ltb index i && sensor index) (PastSensor index)
   unfolding kind_of
   kind_2 = refl
-
-  pub kind_earlier : (kind : ℕ) (past : Bool) → kind ≡ 2 → index < i → sensor index ≡ not past → kind_of n sensor i kind index ≡ kind_if (not past) (PastSensor index)
-  kind_earlier kind past k l e =
-      ap (λ (x : ℕ). kind_of n sensor i x index) k ∙ kind_2
-      ∙ ap₂ (λ (x y : Bool). kind_if (x && y) (PastSensor index)) (lt-ltb index i l) e
 
   pub kind_other : (kind : ℕ) → (kind ≡ 0 → ⊥) → (kind ≡ 1 → ⊥) → (kind ≡ 2 → ⊥) → kind_of n sensor i kind index ≡ None
   unfolding kind_of

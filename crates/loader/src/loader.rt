@@ -18,7 +18,7 @@ use scan::{
 use shape::{are_counts_ok, is_sensor};
 
 // A file was loaded; or the number of the refusal and the offset of the field's first byte.
-#[derive(Clone, Copy)]
+#[derive(Clone, Copy, Debug, PartialEq, Eq)]
 pub enum LoadAnswer {
     Loaded,
     Refused { number: u8, offset: usize },
@@ -153,6 +153,7 @@ fn constraints_at(s: &[u8], at: usize, r: usize, n: usize) -> Result<(Constraint
     let mut list = zero_constraints();
     let mut next = at;
     let mut m: usize = 0;
+    // No `for`: the end's field ends the loop, and the header's test bounds m.
     loop {
         let front = front_at(s, next, TAG_CONSTRAINT, m)?;
         let offset = front.at;

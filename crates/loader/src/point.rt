@@ -15,28 +15,12 @@ fn kind_of(pasts: &[bool; MOST_READS], n: usize, i: usize, kind: u8, index: u8) 
     ensures { result ≡ kind_of n (not_past pasts.now) i kind index }
 {
     let k = index as usize;
-    if kind == 0 {
-        if index == 0 {
-            return Some(Kind::Sensor);
-        }
-        return None;
+    match kind {
+        0 => (index == 0).then_some(Kind::Sensor),
+        1 => (k < n).then_some(Kind::PastOutput(index)),
+        2 => (k < i && !pasts[k]).then_some(Kind::PastSensor(index)),
+        _ => None,
     }
-    if kind == 1 {
-        if k < n {
-            return Some(Kind::PastOutput(index));
-        }
-        return None;
-    }
-    if kind == 2 {
-        if k < i {
-            if pasts[k] {
-                return None;
-            }
-            return Some(Kind::PastSensor(index));
-        }
-        return None;
-    }
-    None
 }
 
 // The name that bytes spell, where none of the first i read points and of the first j outputs has it.

@@ -1,53 +1,45 @@
--- `loader::point::kind_of` meets its contract: at each `return` the tests that led there say which case of `kind_of` holds. Assumes nothing.
-use mathlib.Core.Path.{◌≡◌, sym, ap}
-use mathlib.Core.Bool.{Bool, true, false, not}
-use borrow.Author.Tests.{eq-eqb, ne_eqb, lt-ltb, le-ltb}
-use Rattle.scan.specs.declared.set.Kind.TheVariants.{PastSensor}
+-- `loader::point::kind_of` meets its contract: the arm says which case of `kind_of` holds, and its test the kind. Assumes nothing.
+use mathlib.Core.Path.{◌≡◌, refl, sym, ap, ◌∙◌}
+use mathlib.Core.Bool.{Bool, true, false, ◌&&◌}
+use lib.Dec.{eqb, ltb}
+use borrow.Author.Tests.{lt-ltb, le-ltb}
+use borrow.Author.Rules.{rules}
+use Rattle.std.specs.Bool.{then_some}
+use Rattle.scan.specs.declared.set.Kind.{Kind}
+use Rattle.scan.specs.declared.set.Kind.TheVariants.{Sensor, PastOutput, PastSensor}
 use Rattle.loader.specs.Load.{kind_of, kind_if}
 use Rattle.loader.specs.way.Load.{not_past}
-use Rattle.loader.proofs.LoadLaws.{kind_0, kind_1, kind_2, kind_earlier, kind_other}
+use Rattle.loader.proofs.LoadLaws.{kind_0, kind_1, kind_2, kind_other}
 use Rattle.loader.proofs.point.kind_of.Goals as goal
-use Rattle.loader.proofs.point.kind_of.Goals.{Then-k-i}
+use Rattle.loader.proofs.point.kind_of.Goals.{then-k-i, else-k-i}
 
--- a past sensor, by what the list says of the read point that it names
-past : (c : Then-k-i) (q : Bool) → let a = c.args in not_past a.pasts.now a.index ≡ not q
-    → kind_if (not q) (PastSensor a.index) ≡ kind_of a.n (not_past a.pasts.now) a.i a.kind a.index
-past c q e =
+some-if : (b : Bool) (k : Kind) → then_some b k ≡ kind_if b k
+some-if true k = refl
+some-if false k = refl
+
+pub returns-in-0 : goal.returns-in-0
+returns-in-0 c =
     let a = c.args in
-    sym (kind_earlier a.n (not_past a.pasts.now) a.i a.index a.kind q c.if-kind-eq2.true c.if-k-i.true e)
+    c.then_some.ensures ∙ some-if (eqb a.index 0) Sensor ∙ sym (ap (λ x. kind_of a.n (not_past a.pasts.now) a.i x a.index) c.in-0.is ∙ kind_0 a.n (not_past a.pasts.now) a.i a.index)
 
-pub returns-then-index-eq0 : goal.returns-then-index-eq0
-returns-then-index-eq0 c =
+pub returns-in-1 : goal.returns-in-1
+returns-in-1 c =
     let a = c.args in
-    rw (c.if-kind-eq0.true, kind_0 a.n (not_past a.pasts.now) a.i a.index) (simp (eq-eqb _ _ c.if-index-eq0.true))
+    c.then_some-in-1.ensures ∙ some-if (ltb a.index a.n) (PastOutput a.index) ∙ sym (ap (λ x. kind_of a.n (not_past a.pasts.now) a.i x a.index) c.in-1.is ∙ kind_1 a.n (not_past a.pasts.now) a.i a.index)
 
-pub returns-then-kind-eq0 : goal.returns-then-kind-eq0
-returns-then-kind-eq0 c =
+pub returns-after-k-i : goal.returns-after-k-i
+returns-after-k-i c =
     let a = c.args in
-    rw (c.if-kind-eq0.true, kind_0 a.n (not_past a.pasts.now) a.i a.index) (simp (ne_eqb _ _ c.if-index-eq0.false))
+    let test : Bool → Bool = λ b. b && not_past a.pasts.now a.index in
+    let both : c.if-k-i.then_some ≡ test (ltb a.index a.i) =
+    elim c.if-k-i.branch [
+      | then-k-i w ↦ w.then_some-is ∙ ap test (sym (lt-ltb _ _ w.if-k-i.true))
+      | else-k-i w ↦ let none = le-ltb a.index a.i w.if-k-i.false in w.then_some-is ∙ none ∙ ap test (sym none)
+    ] in
+    c.then_some-in-2.ensures ∙ some-if c.if-k-i.then_some (PastSensor a.index) ∙ ap (λ b. kind_if b (PastSensor a.index)) both
+    ∙ sym (ap (λ x. kind_of a.n (not_past a.pasts.now) a.i x a.index) c.in-2.is ∙ kind_2 a.n (not_past a.pasts.now) a.i a.index)
 
-pub returns-then-k-n : goal.returns-then-k-n
-returns-then-k-n c =
+pub returns-in_default : goal.returns-in_default
+returns-in_default c =
     let a = c.args in
-    rw (c.if-kind-eq1.true, kind_1 a.n (not_past a.pasts.now) a.i a.index) (simp (lt-ltb _ _ c.if-k-n.true))
-
-pub returns-then-kind-eq1 : goal.returns-then-kind-eq1
-returns-then-kind-eq1 c =
-    let a = c.args in
-    rw (c.if-kind-eq1.true, kind_1 a.n (not_past a.pasts.now) a.i a.index) (simp (le-ltb _ _ c.if-k-n.false))
-
-pub returns-then-pasts-k : goal.returns-then-pasts-k
-returns-then-pasts-k c = past (goal.at.returns-then-pasts-k c).Then-k-i true (ap not c.if-pasts-k.true)
-
-pub returns-then-k-i : goal.returns-then-k-i
-returns-then-k-i c = past (goal.at.returns-then-k-i c).Then-k-i false (ap not c.if-pasts-k.false)
-
-pub returns-then-kind-eq2 : goal.returns-then-kind-eq2
-returns-then-kind-eq2 c =
-    let a = c.args in
-    rw (c.if-kind-eq2.true, kind_2 a.n (not_past a.pasts.now) a.i a.index) (simp (le-ltb _ _ c.if-k-i.false))
-
-pub returns : goal.returns
-returns c =
-    let a = c.args in
-    sym (kind_other a.n (not_past a.pasts.now) a.i a.index a.kind c.if-kind-eq0.false c.if-kind-eq1.false c.if-kind-eq2.false)
+    sym (kind_other a.n (not_past a.pasts.now) a.i a.index a.kind (search rules) (search rules) (search rules))
