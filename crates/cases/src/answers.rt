@@ -5,7 +5,11 @@ use shape::{FindError, Point, PutError};
 use std::io;
 use verdict::Verdict;
 
-pub fn print_written(rt: &impl Print, mark: u8, written: Result<usize, PutError>) -> io::Result<()> {
+pub fn print_written(
+    rt: &impl Print,
+    mark: u8,
+    written: Result<usize, PutError>,
+) -> io::Result<()> {
     print_behind(rt, b' ', writer::number_of(written) as usize)?;
     match written {
         Ok(length) => print_behind(rt, mark, length),

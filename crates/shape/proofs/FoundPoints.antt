@@ -16,7 +16,7 @@ use Rattle.std.specs.Prelude.{Result, Ok, Err}
 use Rattle.shape.specs.declared.finding.Point.{Point}
 use Rattle.shape.specs.declared.finding.Point.TheVariants.{Read, Output}
 use Rattle.shape.specs.declared.finding.FindError.{FindError}
-use Rattle.shape.specs.declared.finding.FindError.TheVariants.{BadSet, BadLength, Unknown}
+use Rattle.shape.specs.declared.finding.FindError.TheVariants.{Unknown}
 use Rattle.scan.specs.Set.{name_places, read_point, output_point}
 use Rattle.scan.specs.Names.{length_ok, all_name_bytes, padded, name_bytes, name_ok, same_name, read_has_name, first_read, output_named, first_output}
 use Rattle.scan.specs.Shape.{well_formed}
