@@ -160,10 +160,8 @@ fn print_sizes(
     told: Line,
     sizes: &[u8],
 ) -> io::Result<()> {
-    let mut i: usize = 0;
-    while SIZE_BYTES <= sizes.len() - i {
-        print_size(rt, operation, set, told, two_of(behind(sizes, i)) as usize)?;
-        i = i + SIZE_BYTES;
+    for size in sizes.chunks_exact(SIZE_BYTES) {
+        print_size(rt, operation, set, told, two_of(size) as usize)?;
     }
     end_line(rt)
 }

@@ -36,27 +36,11 @@ pub fn print_line(rt: &impl Print, file: &[u8]) -> io::Result<()> {
     Ok(())
 }
 
-// Whether the two have the same bytes.
-fn is_same(a: &[u8], b: &[u8]) -> bool {
-    if a.len() != b.len() {
-        return false;
-    }
-    let mut same = true;
-    for i in 0..a.len() {
-        if a[i] != b[i] {
-            same = false;
-        }
-    }
-    same
-}
-
 // Whether the file, written into a buffer with this length, is the one that was loaded.
 fn print_same(rt: &impl Print, buf: &[u8], length: usize, file: &[u8]) -> io::Result<()> {
     print_behind(rt, b' ', length)?;
-    if length <= buf.len() {
-        if is_same(&buf[0..length], file) {
-            return rt.write_all(b" same\n");
-        }
+    if length <= buf.len() && &buf[..length] == file {
+        return rt.write_all(b" same\n");
     }
     rt.write_all(b" differs\n")
 }

@@ -120,15 +120,7 @@ fn print_formed(rt: &impl Print) -> io::Result<()> {
 
 // Whether the bytes from `from` on are as they were before a call.
 fn is_filled(buf: &[u8], from: usize) -> bool {
-    let mut same = true;
-    let mut i = from;
-    while i < buf.len() {
-        if buf[i] != FILL {
-            same = false;
-        }
-        i = i + 1;
-    }
-    same
+    buf.iter().skip(from).all(|b| *b == FILL)
 }
 
 // Writing into a buffer: the answer, and whether bytes from `from` on are untouched.

@@ -60,15 +60,14 @@ fn print_case_of(rt: &impl Print, kind: u8, file: &[u8], more: &[u8]) -> io::Res
 fn print_file_case<R: Read>(rt: &impl Print, input: &mut R, kind: u8) -> io::Result<bool> {
     let mut file = bytes_io::zeros::<65536>();
     let mut more = bytes_io::zeros::<4096>();
-    let n = record(&mut *input, &mut file);
-    let m = record(input, &mut more);
-    if n <= 65535 {
-        if m <= 4096 {
-            print_case_of(rt, kind, &file[0..n], &more[0..m])?;
-            return Ok(true);
-        }
-    }
-    Ok(false)
+    let Some(file) = record(&mut *input, &mut file) else {
+        return Ok(false);
+    };
+    let Some(more) = record(input, &mut more) else {
+        return Ok(false);
+    };
+    print_case_of(rt, kind, file, more)?;
+    Ok(true)
 }
 
 // A case of a set, words and names; whether all were there.
@@ -76,18 +75,20 @@ fn print_set_case<R: Read>(rt: &impl Print, input: &mut R) -> io::Result<bool> {
     let mut set = bytes_io::zeros::<4096>();
     let mut words = bytes_io::zeros::<4096>();
     let mut names = bytes_io::zeros::<4096>();
-    let s = record(&mut *input, &mut set);
-    let w = record(&mut *input, &mut words);
-    let n = record(input, &mut names);
-    if s == sets::SET_BYTES {
-        if w <= 4096 {
-            if n <= 4096 {
-                sets::print_set(rt, &set[0..s], &words[0..w], &names[0..n])?;
-                return Ok(true);
-            }
-        }
+    let Some(set) = record(&mut *input, &mut set) else {
+        return Ok(false);
+    };
+    let Some(words) = record(&mut *input, &mut words) else {
+        return Ok(false);
+    };
+    let Some(names) = record(input, &mut names) else {
+        return Ok(false);
+    };
+    if set.len() != sets::SET_BYTES {
+        return Ok(false);
     }
-    Ok(false)
+    sets::print_set(rt, set, words, names)?;
+    Ok(true)
 }
 
 // The next case; whether there was one.
@@ -106,12 +107,9 @@ fn print_case<R: Read>(rt: &impl Print, input: &mut R) -> io::Result<bool> {
 fn main(rt: HostRuntime) -> io::Result<()> {
     let mut input = rt.reader();
     hand::print_all(&rt)?;
-    let mut left = MOST_CASES;
-    while 0 < left {
-        if print_case(&rt, &mut input)? {
-            left = left - 1;
-        } else {
-            left = 0;
+    for _ in 0..MOST_CASES {
+        if !print_case(&rt, &mut input)? {
+            break;
         }
     }
     Ok(())

@@ -1,26 +1,19 @@
 // Finding points by names: those of a names record, and a set's own.
 use super::answers::print_found;
 use super::printing::end_line;
-use scan::{MOST_OUTPUTS, MOST_READS, NAME_PLACES, Set};
+use scan::{NAME_PLACES, Set};
 use std::io;
-
-fn wide(byte: u8) -> usize {
-    byte as usize
-}
 
 // What each name of a names record finds; a name that is cut off ends them.
 pub fn print_names(rt: &impl Print, set: Set, names: &[u8]) -> io::Result<()> {
     rt.write_all(b"NAMES")?;
-    let mut at: usize = 0;
-    while at < names.len() {
-        let from = at + 1;
-        let len = wide(names[at]);
-        if len <= names.len() - from {
-            print_found(rt, shape::find(set, &names[from..from + len]))?;
-            at = from + len;
-        } else {
-            at = names.len();
-        }
+    let mut rest = names;
+    while let Some((len, behind)) = rest.split_first() {
+        let Some((name, others)) = behind.split_at_checked(*len as usize) else {
+            break;
+        };
+        print_found(rt, shape::find(set, name))?;
+        rest = others;
     }
     end_line(rt)
 }
@@ -31,25 +24,15 @@ fn print_own(rt: &impl Print, set: Set, name: [u8; NAME_PLACES]) -> io::Result<(
 }
 
 fn print_reads(rt: &impl Print, set: Set) -> io::Result<()> {
-    let r = set.r;
-    for k in 0..MOST_READS {
-        if k < r {
-            let p = set.reads[k];
-            let name = p.name;
-            print_own(rt, set, name)?;
-        }
+    for p in set.reads.iter().take(set.r) {
+        print_own(rt, set, p.name)?;
     }
     Ok(())
 }
 
 fn print_outputs(rt: &impl Print, set: Set) -> io::Result<()> {
-    let n = set.n;
-    for k in 0..MOST_OUTPUTS {
-        if k < n {
-            let p = set.outputs[k];
-            let name = p.name;
-            print_own(rt, set, name)?;
-        }
+    for p in set.outputs.iter().take(set.n) {
+        print_own(rt, set, p.name)?;
     }
     Ok(())
 }

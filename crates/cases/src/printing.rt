@@ -31,11 +31,7 @@ fn mix(sum: u32, byte: u8) -> u32 {
 
 // The sum of bytes, each of which moves those before it.
 fn sum_of(bytes: &[u8]) -> u32 {
-    let mut sum: u32 = 0;
-    for i in 0..bytes.len() {
-        sum = mix(sum, bytes[i]);
-    }
-    sum
+    bytes.iter().fold(0, |sum, b| mix(sum, *b))
 }
 
 pub fn print_sum(rt: &impl Print, mark: u8, bytes: &[u8]) -> io::Result<()> {

@@ -1,29 +1,26 @@
 // Reading a corpus: its records, and the numbers in them, high byte first.
 use std::io::Read;
 
-// More than a record has.
-const NO_RECORD: usize = 65536;
-
 // The bytes of a pair of words: four and two.
 pub const PAIR: usize = 6;
 
 // The bytes of a state beside its set: a pair, and one for the mark.
 pub const STATE_BYTES: usize = 7;
 
-// The next record at the front of the buffer, and its length; more than 65,535 where the input ends before the record does, or the buffer.
-pub fn record<R: Read>(input: &mut R, buf: &mut [u8]) -> usize {
+// The next record, in the buffer; none where the input ends before the record does, or the buffer.
+pub fn record<'a, R: Read>(input: &mut R, buf: &'a mut [u8]) -> Option<&'a [u8]> {
     let mut head = [0u8; 2];
     if bytes_io::read_full(&mut *input, &mut head) < 2 {
-        return NO_RECORD;
+        return None;
     }
     let len = two_of(&head) as usize;
     if buf.len() < len {
-        return NO_RECORD;
+        return None;
     }
-    if bytes_io::read_full(input, &mut buf[0..len]) < len {
-        return NO_RECORD;
+    if bytes_io::read_full(input, &mut buf[..len]) < len {
+        return None;
     }
-    len
+    Some(&buf[..len])
 }
 
 // The byte at a place; 0 where there is none.

@@ -10,7 +10,7 @@ use scan::{
     ReadPoint, Set,
 };
 use shape::PutError;
-use std::io;
+use std::{array, io};
 
 // The bytes of a set, of a read point and of a constraint, and where the read points, the outputs and the constraints begin.
 pub const SET_BYTES: usize = 1840;
@@ -90,33 +90,15 @@ fn constraint(bytes: &[u8]) -> Constraint {
 }
 
 fn reads_of(bytes: &[u8]) -> [ReadPoint; MOST_READS] {
-    let first = read_point(bytes);
-    let mut reads = [first; MOST_READS];
-    for k in 0..MOST_READS {
-        let p = read_point(behind(bytes, k * READ_BYTES));
-        reads[k] = p;
-    }
-    reads
+    array::from_fn(|k| read_point(behind(bytes, k * READ_BYTES)))
 }
 
 fn outputs_of(bytes: &[u8]) -> [OutputPoint; MOST_OUTPUTS] {
-    let first = output_point(bytes);
-    let mut outputs = [first; MOST_OUTPUTS];
-    for k in 0..MOST_OUTPUTS {
-        let p = output_point(behind(bytes, k * NAME_PLACES));
-        outputs[k] = p;
-    }
-    outputs
+    array::from_fn(|k| output_point(behind(bytes, k * NAME_PLACES)))
 }
 
 fn constraints_of(bytes: &[u8]) -> [Constraint; MOST_CONSTRAINTS] {
-    let first = constraint(bytes);
-    let mut constraints = [first; MOST_CONSTRAINTS];
-    for i in 0..MOST_CONSTRAINTS {
-        let c = constraint(behind(bytes, i * CONSTRAINT_BYTES));
-        constraints[i] = c;
-    }
-    constraints
+    array::from_fn(|i| constraint(behind(bytes, i * CONSTRAINT_BYTES)))
 }
 
 // The set that the bytes hold.

@@ -25,11 +25,8 @@ fn print_kept(rt: &impl Print, state: State) -> io::Result<()> {
 // The list of scans, of a words record, each of the state that the one before returned; and the pasts and the mark of the last state.
 pub fn print_list(rt: &impl Print, start: State, calls: &[u8]) -> io::Result<()> {
     let mut state = start;
-    let mut i: usize = 0;
-    while PAIR <= calls.len() - i {
-        let call = behind(calls, i);
+    for call in calls.chunks_exact(PAIR) {
         state = scan_one(rt, state, four_of(call), two_of(behind(call, 4)))?;
-        i = i + PAIR;
     }
     print_kept(rt, state)
 }

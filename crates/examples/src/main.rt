@@ -48,25 +48,9 @@ fn say_line(rt: &impl Print, file: &[u8]) -> io::Result<()> {
     say_front(rt, &out, len)
 }
 
-// Whether the two have the same bytes.
-fn is_same(a: &[u8], b: &[u8]) -> bool {
-    if a.len() != b.len() {
-        return false;
-    }
-    let mut same = true;
-    for i in 0..a.len() {
-        if a[i] != b[i] {
-            same = false;
-        }
-    }
-    same
-}
-
 fn say_same(rt: &impl Print, shown: &[u8], len: usize, text: &[u8]) -> io::Result<()> {
-    if len <= shown.len() {
-        if is_same(&shown[0..len], text) {
-            return say(rt, b" is what is shown of it\n");
-        }
+    if len <= shown.len() && &shown[..len] == text {
+        return say(rt, b" is what is shown of it\n");
     }
     say(rt, b" is not what is shown of it\n")
 }

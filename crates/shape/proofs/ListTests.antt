@@ -18,10 +18,8 @@ use Rattle.std.specs.Option.{unwrap_or}
 use Rattle.words.specs.Loop.{all, first}
 use Rattle.words.proofs.BoolLaws.{by_test, same_truth, and_true}
 use Rattle.words.proofs.LoopLaws.{all_true, all_at, first_is, first_none, first_cong}
-use Rattle.scan.specs.Set.{name_places}
 use Rattle.scan.specs.Names.{same_name}
 use Rattle.shape.specs.way.Names.{name_is, first_name}
-use Rattle.scan.proofs.NamesLaws.{same_name_law, name_same}
 
 module _ {A : Type 0} (p : A → Bool) (none : A) where
   -- the test at a place
@@ -90,19 +88,10 @@ module _ {A : Type 0} (p : A → Bool) (none : A) where
       (λ t. ap (λ (b : Bool). unwrap_or (cond b (Some i) None) n) t ∙ omega (arith, ltb-false i (length xs) t))
       ∙ first_place xs ∙ ap (λ (m : ℕ). first m (at xs)) e
 
--- names of eight places are the same list exactly where they agree byte by byte
-pub same_by_list : (a b : List ℕ) → length a ≡ name_places → length b ≡ name_places → pointwise eqb a b ≡ same_name a b
-same_by_list a b la lb =
-    same_truth _ _
-    (λ e. ap (same_name a) (sym ((bytes_decides a b).0 e)) ∙ name_same a)
-    (λ e. (bytes_decides a b).1 (same_name_law a b la lb e))
-
--- the first of the first i names that is the name, all of eight places
-pub name_by_list : (names : List (List ℕ)) (i : ℕ) (name : List ℕ) → i ≤ length names → ((k : ℕ) → k < length names → length (get_or names k []) ≡ name_places) → length name ≡ name_places
-    → first i (at (λ own. pointwise eqb own name) [] (take i names)) ≡ first_name names i name
+-- the first of the first i names that is the name
+pub first_named : (names : List (List ℕ)) (i : ℕ) (name : List ℕ) → first i (at (λ own. same_name own name) [] (take i names)) ≡ first_name names i name
 unfolding first_name name_is
-name_by_list names i name h long own =
-    first_cong i _ _ (λ k l. ap (λ (x : List ℕ). pointwise eqb x name) (get_or-take i names k [] l) ∙ same_by_list (get_or names k []) name (long k (omega arith)) own)
+first_named names i name = first_cong i _ _ (λ k h. ap (λ (own : List ℕ). same_name own name) (get_or-take i names k [] h))
 
 -- a list is n zeros exactly where each of its n places is zero
 pub zeros_by_list : (xs : List ℕ) (n : ℕ) → length xs ≡ n → pointwise eqb xs (replicate n 0) ≡ all n (λ k. eqb (get_or xs k 0) 0)

@@ -1,7 +1,7 @@
 // Names of points: eight byte places by value, compared byte by byte.
 ghost use Rattle.std.specs.Prelude.{◌≡◌, ◌≤◌, min, length};
 ghost use Rattle.scan.specs.Set.{most_reads, most_outputs, name_places};
-ghost use Rattle.scan.specs.Names.{name_byte, all_name_bytes, length_ok, padded, name_bytes, name_ok, name_zero};
+ghost use Rattle.scan.specs.Names.{name_byte, all_name_bytes, length_ok, padded, name_bytes, name_ok, name_zero, same_name};
 ghost use Rattle.shape.specs.way.Names.{next_ok, first_name, name_used, ReadNames, OutputNames};
 ghost use Rattle.shape.specs.Spelling.{spelling};
 
@@ -107,12 +107,26 @@ pub fn names_of_outputs(outputs: [OutputPoint; MOST_OUTPUTS]) -> [[u8; NAME_PLAC
     names
 }
 
+// Whether two names are one. Each of the places is compared, with no branch: `==` leaves at the first that differs, and a scan, which looks at all names, would take a tenth longer.
+fn is_same_name(a: [u8; NAME_PLACES], b: [u8; NAME_PLACES]) -> bool
+    ensures { result ≡ same_name a b }
+{
+    let mut same = true;
+    for k in 0..NAME_PLACES {
+        same = both(same, a[k] == b[k]);
+    }
+    same
+}
+
 // The first of the first i names that is the name, or i.
 pub fn first_of(names: &[[u8; NAME_PLACES]], i: usize, name: [u8; NAME_PLACES]) -> usize
     requires { i ≤ length names.now }
     ensures { result ≡ first_name names.now i name }
 {
-    names[..i].iter().position(|own| *own == name).unwrap_or(i)
+    names[..i]
+        .iter()
+        .position(|own| is_same_name(*own, name))
+        .unwrap_or(i)
 }
 
 // Whether one of the first i names of read points, or of the first j of outputs, is the name.

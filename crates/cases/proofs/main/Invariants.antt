@@ -1,9 +1,0 @@
--- `main` ends, since each turn leaves fewer cases.
-use Rattle.std.proofs.Common.{◌≤◌}
-use Rattle.cases.proofs.main.Given as goal
-
-abbrev pub invariant-loop-left : goal.invariant-loop-left
-invariant-loop-left l = 0 ≤ l.left
-
-abbrev pub decreases-loop-left : goal.decreases-loop-left
-decreases-loop-left l = l.left

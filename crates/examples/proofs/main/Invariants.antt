@@ -1,9 +1,0 @@
--- `main` ends, since each turn leaves fewer pairs.
-use Rattle.std.proofs.Common.{◌-◌, ◌≤◌}
-use Rattle.examples.proofs.main.Given as goal
-
-abbrev pub invariant-loop-pair : goal.invariant-loop-pair
-invariant-loop-pair l = l.pair ≤ 64
-
-abbrev pub decreases-loop-pair : goal.decreases-loop-pair
-decreases-loop-pair l = 64 - l.pair
