@@ -2,7 +2,7 @@
 ghost use Rattle.std.specs.Prelude.{◌≡◌, List, ℕ, ◌+◌, ◌≤◌, length, replicate, IfOk};
 ghost use Rattle.scan.specs.declared.set.ReadPoint.{ReadPoint};
 ghost use Rattle.scan.specs.declared.set.OutputPoint.{OutputPoint};
-ghost use Rattle.scan.specs.Set.{most_reads, most_outputs, most_constraints, zero_name, zero_constraint, with_reads, with_outputs};
+ghost use Rattle.scan.specs.Set.{most_reads, most_outputs, zero_name, with_reads, with_outputs};
 ghost use Rattle.shape.specs.way.Names.{ReadNames};
 ghost use Rattle.loader.specs.Load.{of_counts, counts_at, reads_from, outputs_from, after_rest, answered, load_from, load_of};
 ghost use Rattle.loader.specs.way.Load.{reached_by, end_told, end_place, rested_set, whole_set, set_told};
@@ -12,8 +12,8 @@ use super::step::{output_at, read_at};
 use header::{Fault, Refusal, TAG_CONSTRAINT, TAG_COUNTS, TAG_END, front_at, is_wide};
 use literal::literals_of;
 use scan::{
-    Constraint, Kind, MOST_CONSTRAINTS, MOST_OUTPUTS, MOST_READS, NAME_PLACES, OutputPoint,
-    ReadPoint, Set, zero_set,
+    Constraint, MOST_CONSTRAINTS, MOST_OUTPUTS, MOST_READS, NAME_PLACES, OutputPoint, ReadPoint,
+    Set, zero_set,
 };
 use shape::{are_counts_ok, is_sensor};
 
@@ -74,11 +74,8 @@ fn reads_at<'a>(
     requires { (r ≤ most_reads) × (names.old ≡ replicate most_reads zero_name) }
     ensures { (reached_by result (with_reads (of_counts r n)) ≡ reads_from s.now r 0 at (of_counts r n)) × IfOk result (λ x. ReadNames names.new x.0) }
 {
-    let none = [0u8; NAME_PLACES];
-    let kind = Kind::Sensor;
-    let zero = ReadPoint { kind, name: none };
-    let outputs = [none; MOST_OUTPUTS];
-    let mut reads = [zero; MOST_READS];
+    let outputs = [[0u8; NAME_PLACES]; MOST_OUTPUTS];
+    let mut reads = [ReadPoint::ZERO; MOST_READS];
     let mut pasts = [false; MOST_READS];
     let mut next = at;
     for i in 0..r {
@@ -103,10 +100,8 @@ fn outputs_at<'a>(
     requires { (r ≤ most_reads) × (n ≤ most_outputs) }
     ensures { (reads : List ReadPoint) → ReadNames names.now reads → reached_by result (with_outputs (with_reads (of_counts r n) reads)) ≡ outputs_from s.now n 0 at (with_reads (of_counts r n) reads) }
 {
-    let none = [0u8; NAME_PLACES];
-    let zero = OutputPoint { name: none };
-    let mut outputs = [zero; MOST_OUTPUTS];
-    let mut own = [none; MOST_OUTPUTS];
+    let mut outputs = [OutputPoint::ZERO; MOST_OUTPUTS];
+    let mut own = [[0u8; NAME_PLACES]; MOST_OUTPUTS];
     let mut next = at;
     for j in 0..n {
         let (name, behind) = output_at(s, next, names, r, &own, j)?;
@@ -131,26 +126,12 @@ fn end_at(s: &[u8], at: usize) -> Result<usize, Refusal>
     Ok(at + 3)
 }
 
-fn zero_constraints() -> [Constraint; MOST_CONSTRAINTS]
-    ensures { result ≡ replicate most_constraints zero_constraint }
-{
-    let ranks = [0u8; MOST_OUTPUTS];
-    let zero = Constraint {
-        read_plain: 0,
-        read_negated: 0,
-        out_plain: 0,
-        out_negated: 0,
-        ranks,
-    };
-    [zero; MOST_CONSTRAINTS]
-}
-
 // Constraints from `at` up to the end, for a set of r read points and n outputs.
 fn constraints_at(s: &[u8], at: usize, r: usize, n: usize) -> Result<(Constraints, usize), Refusal>
     requires { (r ≤ most_reads) × (n ≤ most_outputs) }
     ensures { (rest : ℕ) (reads : List ReadPoint) (outputs : List OutputPoint) → reached_by result (λ c. whole_set r n c.m rest reads outputs c.list) ≡ after_rest s.now at (rested_set r n rest reads outputs) }
 {
-    let mut list = zero_constraints();
+    let mut list = [Constraint::ZERO; MOST_CONSTRAINTS];
     let mut next = at;
     let mut m: usize = 0;
     // No `for`: the end's field ends the loop, and the header's test bounds m.

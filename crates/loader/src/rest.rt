@@ -1,18 +1,11 @@
 // The field of the rest word, which may stand between the outputs and the constraints.
-ghost use Rattle.std.specs.Prelude.{◌≡◌, ◌+◌, ◌*◌, ◌^◌, ◌&&◌, ltb, drop};
+ghost use Rattle.std.specs.Prelude.{◌≡◌, ◌^◌, ◌&&◌, ltb, drop};
 ghost use Rattle.header.specs.Header.{header_of};
 ghost use Rattle.loader.specs.way.Load.{numbered, rest_given, step_by, rest_place};
 
 use choice::both;
 use header::{Fault, Refusal, TAG_REST, front_at};
 use words::fits16;
-
-// Two bytes as one number.
-fn two_bytes(high: u8, low: u8) -> u16
-    ensures { result ≡ high * 256 + low }
-{
-    high as u16 * 256 + low as u16
-}
 
 // The rest word is not 0, and has bits at the n outputs only.
 fn is_rest_good(rest: u16, n: usize) -> bool
@@ -26,7 +19,7 @@ fn rest_field(s: &[u8], at: usize, n: usize) -> Result<(u16, usize), Refusal>
     ensures { numbered result ≡ step_by s.now at (rest_given n) (header_of (drop at s.now) 6 0) }
 {
     let front = front_at(s, at, TAG_REST, 0)?;
-    let rest = two_bytes(s[front.at + 3], s[front.at + 4]);
+    let rest = u16::from_be_bytes([s[front.at + 3], s[front.at + 4]]);
     if !is_rest_good(rest, n) {
         return Err(Refusal {
             fault: Fault::BadRest,

@@ -1,7 +1,7 @@
 // The set that bytes say, well formed or not: any bytes say one.
 ghost use Rattle.std.specs.Prelude.{◌≡◌, ◌<◌, ◌≤◌, ◌+◌};
 ghost use Rattle.scan.specs.Set.{most_reads, most_outputs, most_constraints, zero_read, zero_output, zero_constraint};
-ghost use Rattle.prepared.specs.Said.{kind_from, two, four, name_in, ranks_in, read_in, output_in, constraint_in, first_of, set_said};
+ghost use Rattle.prepared.specs.Said.{kind_from, name_in, ranks_in, read_in, output_in, constraint_in, first_of, set_said};
 
 use super::PREPARED_BYTES;
 use scan::{
@@ -9,34 +9,15 @@ use scan::{
     ReadPoint, Set,
 };
 
-fn count_of(byte: u8) -> usize
-    ensures { result ≡ byte }
-{
-    byte as usize
-}
-
+#[tactic(auto, unfolding(crate::specs::Said::kind_from))]
 fn kind_from(tag: u8, index: u8) -> Kind
     ensures { result ≡ kind_from tag index }
 {
-    if tag == 0 {
-        return Kind::Sensor;
+    match tag {
+        0 => Kind::Sensor,
+        1 => Kind::PastOutput(index),
+        _ => Kind::PastSensor(index),
     }
-    if tag == 1 {
-        return Kind::PastOutput(index);
-    }
-    Kind::PastSensor(index)
-}
-
-fn join2(low: u8, high: u8) -> u16
-    ensures { result ≡ two low high }
-{
-    high as u16 * 256 + low as u16
-}
-
-fn join4(a: u8, b: u8, c: u8, d: u8) -> u32
-    ensures { result ≡ four a b c d }
-{
-    join2(c, d) as u32 * 65536 + join2(a, b) as u32
 }
 
 fn name_in(b: &[u8; PREPARED_BYTES], at: usize) -> [u8; NAME_PLACES]
@@ -98,10 +79,10 @@ fn constraint_in(b: &[u8; PREPARED_BYTES], i: usize) -> Constraint
     ensures { result ≡ constraint_in b.now i }
 {
     let at = 301 + 24 * i;
-    let read_plain = join4(b[at], b[at + 1], b[at + 2], b[at + 3]);
-    let read_negated = join4(b[at + 4], b[at + 5], b[at + 6], b[at + 7]);
-    let out_plain = join2(b[at + 8], b[at + 9]);
-    let out_negated = join2(b[at + 10], b[at + 11]);
+    let read_plain = u32::from_le_bytes([b[at], b[at + 1], b[at + 2], b[at + 3]]);
+    let read_negated = u32::from_le_bytes([b[at + 4], b[at + 5], b[at + 6], b[at + 7]]);
+    let out_plain = u16::from_le_bytes([b[at + 8], b[at + 9]]);
+    let out_negated = u16::from_le_bytes([b[at + 10], b[at + 11]]);
     let ranks = ranks_in(b, at + 12);
     Constraint {
         read_plain,
@@ -116,10 +97,7 @@ fn constraint_in(b: &[u8; PREPARED_BYTES], i: usize) -> Constraint
 fn reads_in(b: &[u8; PREPARED_BYTES], r: usize) -> [ReadPoint; MOST_READS]
     ensures { result ≡ first_of r most_reads zero_read (read_in b.now) }
 {
-    let kind = Kind::Sensor;
-    let name = [0u8; NAME_PLACES];
-    let zero = ReadPoint { kind, name };
-    let mut reads = [zero; MOST_READS];
+    let mut reads = [ReadPoint::ZERO; MOST_READS];
     let end = r.min(MOST_READS);
     for k in 0..end {
         reads[k] = read_in(b, k);
@@ -131,9 +109,7 @@ fn reads_in(b: &[u8; PREPARED_BYTES], r: usize) -> [ReadPoint; MOST_READS]
 fn outputs_in(b: &[u8; PREPARED_BYTES], n: usize) -> [OutputPoint; MOST_OUTPUTS]
     ensures { result ≡ first_of n most_outputs zero_output (output_in b.now) }
 {
-    let name = [0u8; NAME_PLACES];
-    let zero = OutputPoint { name };
-    let mut outputs = [zero; MOST_OUTPUTS];
+    let mut outputs = [OutputPoint::ZERO; MOST_OUTPUTS];
     let end = n.min(MOST_OUTPUTS);
     for j in 0..end {
         outputs[j] = output_in(b, j);
@@ -145,15 +121,7 @@ fn outputs_in(b: &[u8; PREPARED_BYTES], n: usize) -> [OutputPoint; MOST_OUTPUTS]
 fn constraints_in(b: &[u8; PREPARED_BYTES], m: usize) -> [Constraint; MOST_CONSTRAINTS]
     ensures { result ≡ first_of m most_constraints zero_constraint (constraint_in b.now) }
 {
-    let ranks = [0u8; MOST_OUTPUTS];
-    let zero = Constraint {
-        read_plain: 0,
-        read_negated: 0,
-        out_plain: 0,
-        out_negated: 0,
-        ranks,
-    };
-    let mut constraints = [zero; MOST_CONSTRAINTS];
+    let mut constraints = [Constraint::ZERO; MOST_CONSTRAINTS];
     let end = m.min(MOST_CONSTRAINTS);
     for i in 0..end {
         constraints[i] = constraint_in(b, i);
@@ -165,10 +133,10 @@ fn constraints_in(b: &[u8; PREPARED_BYTES], m: usize) -> [Constraint; MOST_CONST
 pub fn set_said(b: &[u8; PREPARED_BYTES]) -> Set
     ensures { result ≡ set_said b.now }
 {
-    let r = count_of(b[0]);
-    let n = count_of(b[1]);
-    let m = count_of(b[2]);
-    let rest = join2(b[3], b[4]);
+    let r = b[0] as usize;
+    let n = b[1] as usize;
+    let m = b[2] as usize;
+    let rest = u16::from_le_bytes([b[3], b[4]]);
     let reads = reads_in(b, r);
     let outputs = outputs_in(b, n);
     let constraints = constraints_in(b, m);

@@ -1,6 +1,6 @@
 -- `loader::loader::constraints_at` meets its contract. The loop's invariant: the fields from here on, behind the constraints so far, give what all of
 -- them give, whichever points the set has. Assumes nothing.
-use mathlib.Core.Path.{◌≡◌, sym, ap, ◌∙◌, refl}
+use mathlib.Core.Path.{refl, ◌≡◌, sym, ap, ◌∙◌, refl}
 use mathlib.Core.List.{List}
 use Prim.Native.Nat.{ℕ, suc, ◌+◌, ◌-◌, ◌≤◌, ◌<◌}
 use native.Mathlib.Omega.{arith}
@@ -44,12 +44,7 @@ few c = (constraint_length _ _ _ _ c.if-front-eq-TAG_END.false (front_header c.a
 
 pub loop-front-init : goal.loop-front-init
 unfolding zero_set
-loop-front-init c =
-    let a = c.args in
-    let none = c.zero_constraints-list.ensures in (
-      search rules,
-      λ rest reads outputs. ap (λ l. constraints_from a.s.now (suc most_constraints) a.at (whole_set a.r a.n 0 rest reads outputs l)) (sym none),
-    )
+loop-front-init c = (search rules, λ rest reads outputs. refl)
 
 pub returns-in_err-front : goal.returns-in_err-front
 returns-in_err-front c rest reads outputs =

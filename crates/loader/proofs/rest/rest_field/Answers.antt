@@ -55,11 +55,11 @@ returns-then-not-is_rest_good c =
     let a = c.args in
     let f = c.in_ok-front.front in
     step_body a.s.now a.at 6 (rest_given a.n) f c.in_ok-front.ensures (Err 54)
-    (by-test a.s.now f.at a.n f.len c.two_bytes-rest.result (two (goal.at.returns-then-not-is_rest_good c).In_ok-front) c.two_bytes-rest.ensures _ (sym c.is_rest_good.ensures ∙ c.if-not-is_rest_good.true))
+    (by-test a.s.now f.at a.n f.len c.from_be_bytes-rest.result (two (goal.at.returns-then-not-is_rest_good c).In_ok-front) c.from_be_bytes-rest.ensures _ (sym c.is_rest_good.ensures ∙ c.if-not-is_rest_good.true))
 
 pub returns : goal.returns
 returns c =
     let a = c.args in
     let f = c.in_ok-front.front in
-    step_body a.s.now a.at 6 (rest_given a.n) f c.in_ok-front.ensures (Ok c.two_bytes-rest.result)
-    (by-test a.s.now f.at a.n f.len c.two_bytes-rest.result (two (goal.at.returns c).In_ok-front) c.two_bytes-rest.ensures _ (sym c.is_rest_good.ensures ∙ c.if-not-is_rest_good.false))
+    step_body a.s.now a.at 6 (rest_given a.n) f c.in_ok-front.ensures (Ok c.from_be_bytes-rest.result)
+    (by-test a.s.now f.at a.n f.len c.from_be_bytes-rest.result (two (goal.at.returns c).In_ok-front) c.from_be_bytes-rest.ensures _ (sym c.is_rest_good.ensures ∙ c.if-not-is_rest_good.false))

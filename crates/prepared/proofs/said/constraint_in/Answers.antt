@@ -1,16 +1,19 @@
 -- `prepared::said::constraint_in` meets its contract. Assumes nothing.
+use Rattle.std.proofs.Common.{◌≡◌, ℕ, [], ◌∷◌, arith, ◌∙◌}
+use Rattle.std.specs.Int.{w16, w32, from_le_bytes}
+use Rattle.prepared.specs.Said.{two, four}
 use Rattle.prepared.proofs.said.constraint_in.Goals as goal
+
+of_two : (a b : ℕ) → from_le_bytes w16 (a ∷ b ∷ []) ≡ two a b
+of_two a b = omega arith
+
+of_four : (a b c d : ℕ) → from_le_bytes w32 (a ∷ b ∷ c ∷ d ∷ []) ≡ four a b c d
+of_four a b c d = omega arith
 
 pub returns : goal.returns
 returns c =
-    let negated = c in
-    let plain = negated in
-    let read_negated = plain in
-    let read_plain = read_negated in
-    λ i. record {
-      read_plain = read_plain.join4-read_plain.ensures i;
-      read_negated = read_negated.join4-read_negated.ensures i;
-      out_plain = plain.join2-out_plain.ensures i;
-      out_negated = negated.join2-out_negated.ensures i;
-      ranks = c.ranks_in-ranks.ensures i;
-    }
+    let plain = c.from_le_bytes-read_plain.ensures ∙ of_four _ _ _ _ in
+    let negated = c.from_le_bytes-read_negated.ensures ∙ of_four _ _ _ _ in
+    let out = c.from_le_bytes-out_plain.ensures ∙ of_two _ _ in
+    let none = c.from_le_bytes-out_negated.ensures ∙ of_two _ _ in
+    λ i. record { read_plain = plain i; read_negated = negated i; out_plain = out i; out_negated = none i; ranks = c.ranks_in-ranks.ensures i }
