@@ -20,7 +20,7 @@ use Rattle.scan.specs.Set.{most_reads, most_outputs}
 use Rattle.literal.specs.declared.literal.Said.{Said}
 use Rattle.literal.specs.Literal.{Literals, narrows, wides, said_by, place, is_literal, with_bit, with_literal, last_literal, literals_from}
 use Rattle.header.specs.Tag.{literal_size}
-use Rattle.literal.specs.way.Literal.{said_at, sign_bits, bit_at, in_word, part, of_word}
+use Rattle.literal.specs.way.Literal.{said_at, sign_bits, in_word, part, of_word}
 use Rattle.literal.proofs.LiteralLaws.{room, one_more}
 
 -- ---- what a body says at a place
@@ -117,26 +117,6 @@ module _ (from long w k : ℕ) where
       ∙ or_zero_r (part from long w)
 
 -- ---- a literal more
-
--- a literal's number and its place have room among the bits of one sign
-pub number_below : (l : Said) → l.number < room l.out → l.number < sign_bits
-number_below l h = go l.out h
-  where
-    go : (o : Bool) → l.number < room o → l.number < sign_bits
-    go true s = omega arith
-    go false s = omega arith
-
-pub place_below : (l : Said) → l.number < room l.out → place l < sign_bits
-place_below l h = go l.out h
-  where
-    go : (o : Bool) → l.number < room o → cond o (most_reads + l.number) l.number < sign_bits
-    go true s = omega arith
-    go false s = omega arith
-
--- a literal's bit is one of 64
-pub bit_below : (negated : Bool) (at : ℕ) → at < sign_bits → bit_at negated at < 64
-bit_below true at h = omega arith
-bit_below false at h = omega arith
 
 -- a literal more in the word, and its rank if it is an output's, is a literal more in their constraint
 literal_word : (w : ℕ) (ranks : List ℕ) (l : Said) → l.number < room l.out

@@ -18,26 +18,21 @@ use Rattle.scan.specs.Shape.{is_sensor}
 use Rattle.shape.specs.way.Names.{name_used, ReadNames, OutputNames}
 use Rattle.shape.proofs.NamesWayLaws.{read_stored, output_stored, read_zeros, output_zeros}
 use Rattle.shape.proofs.ShapeWayLaws.{used_names}
-use Rattle.std.specs.Prelude.{Result, Ok, Err}
+use Rattle.std.specs.Prelude.{Result, Ok}
 use Rattle.header.specs.declared.numbers.Refusal.{Refusal}
 use Rattle.header.specs.declared.reader.FrontField.{FrontField}
 use Rattle.header.specs.Fault.{number, Taken, Refused as Denied, Good}
 use Rattle.header.specs.Header.{Header, Refused as Stopped, Field, header_of, front_of, body_of}
 use Rattle.header.specs.way.Header.{front_told}
-use Rattle.header.proofs.HeaderLaws.{front_place, front_there, stopped_place, stopped_there}
+use Rattle.header.proofs.HeaderLaws.{front_place, front_there}
 use Rattle.loader.specs.Load.{field_done, field_by, name_field, read_field, sensor_at, read_of, with_read, read_at, output_of, with_output, output_at, rest_word, rest_good, rest_at, going_on}
 use Rattle.loader.specs.way.Load.{Step, numbered, not_past, Pasts, if_taken, name_given, read_given, rest_given, step_done, step_by, rest_place, brought, reached_by, points_set, rested_set}
 use Rattle.loader.proofs.LoadLaws.{body_at}
 
 -- ---- steps
 
--- by the field that code found at its place, or the refusal there
+-- by the field that code found at its place
 module _ {A : Type 0} (s : List ℕ) (at due : ℕ) (got : List ℕ → Result A ℕ) where
-  pub step_refused : (r : Refusal) → front_told (Err r) ≡ front_of s at due 0 → Err (number r.fault, r.offset) ≡ step_by s at got (header_of (drop at s) due 0)
-  step_refused r e =
-      ap (λ (x : ℕ). Err (number r.fault, x)) (stopped_place s at due 0 r e)
-      ∙ ap (step_by s at got) (sym (stopped_there s at due 0 r e))
-
   -- what code gets from the field's body is what the definitions get
   pub step_body : (f : FrontField) → front_told (Ok f) ≡ front_of s at due 0
       → (x : Result A ℕ) → x ≡ got (body_of (drop f.at s) f.len) → step_done f.at (f.at + 3 + f.len) x ≡ step_by s at got (header_of (drop at s) due 0)

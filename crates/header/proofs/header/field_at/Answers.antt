@@ -27,14 +27,6 @@ returns-then-last-at c =
     let s = drop a.at a.s.now in
     sym (raw_cut s (cut_header s (simp length-drop (omega arith))))
 
-pub overflow_mul-len : goal.overflow_mul-len
-overflow_mul-len c = omega (arith, c.wide-high.ensures, c.shared_slice_known-3-1.given (c.args.at + 1))
-
-pub overflow_add-len : goal.overflow_add-len
-overflow_add-len c =
-    let at = c.args.at in
-    omega (arith, c.wide-high.ensures, c.wide-low.ensures, c.shared_slice_known-3-1.given (at + 1), c.shared_slice_known-4-1.given (at + 2))
-
 pub returns-then-last-at-2 : goal.returns-then-last-at-2
 returns-then-last-at-2 c =
     let a = c.args in
