@@ -12,12 +12,12 @@ pub const MOST_DIGITS: usize = 20;
 pub struct Digits {
     pub bytes: [u8; MOST_DIGITS],
     pub at: usize,
+    ghost in_range: { at ≤ 20 },
 }
 
 impl Digits {
     // The digits alone.
     pub fn as_slice(&self) -> &[u8]
-        requires { self.now.at ≤ 20 }
         ensures { result.now ≡ drop self.now.at self.now.bytes }
     {
         &self.bytes[self.at..]
