@@ -128,8 +128,8 @@ pub fn put_set(out: &mut [u8; PREPARED_BYTES], set: Set)
     let constraints = set.constraints;
     let zeros = [0u8; PREPARED_BYTES];
     *out = zeros;
-    put_head(&mut *out, set.r, set.n, set.m, set.rest);
-    put_reads(&mut *out, reads);
-    put_outputs(&mut *out, outputs);
+    put_head(out, set.r, set.n, set.m, set.rest);
+    put_reads(out, reads);
+    put_outputs(out, outputs);
     put_constraints(out, constraints);
 }

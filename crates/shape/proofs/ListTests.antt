@@ -1,4 +1,4 @@
--- What the library's methods say of a list's elements, said by places: `all`, `position` and `==`.
+-- What the library's methods say of a list's elements, said by places: `all` and `position`.
 -- Assumes nothing.
 use mathlib.Core.Path.{◌≡◌, refl, sym, ap, ap₂, subst, ◌∙◌}
 use mathlib.Core.List.{List, [], ◌∷◌}
@@ -7,19 +7,15 @@ use Prim.Native.Nat.{ℕ, zero, suc, ◌+◌, ◌≤◌, ◌<◌}
 use native.Mathlib.Nat.{not-suc-le-zero}
 use Rattle.std.proofs.Common.{one-add}
 use native.Mathlib.Omega.{arith}
-use lib.Dec.{eqb, ltb}
-use lib.ListN.{length, get_or, take, replicate, get_or-replicate, length-replicate}
-use lib.Seq.{ext_get_or, get_or-take}
-use lib.Pointwise.{pointwise, bytes_decides}
-use borrow.Author.Tests.{eq-eqb, eqb-true, ltb-true, ltb-false}
+use lib.Dec.{ltb}
+use lib.ListN.{length, get_or}
+use borrow.Author.Tests.{ltb-true, ltb-false}
 use Rattle.std.specs.Prelude.{Option, Some, None}
 use Rattle.std.specs.List.{list_all, position_or_len}
 use Rattle.std.specs.Option.{unwrap_or}
 use Rattle.words.specs.Loop.{all, first}
 use Rattle.words.proofs.BoolLaws.{by_test, same_truth, and_true}
-use Rattle.words.proofs.LoopLaws.{all_true, all_at, first_is, first_none, first_cong}
-use Rattle.scan.specs.Names.{same_name}
-use Rattle.shape.specs.way.Names.{name_is, first_name}
+use Rattle.words.proofs.LoopLaws.{all_true, all_at, first_is, first_none}
 
 module _ {A : Type 0} (p : A → Bool) (none : A) where
   -- the test at a place
@@ -87,17 +83,3 @@ module _ {A : Type 0} (p : A → Bool) (none : A) where
       (λ t. ap (λ (b : Bool). unwrap_or (cond b (Some i) None) n) t)
       (λ t. ap (λ (b : Bool). unwrap_or (cond b (Some i) None) n) t ∙ omega (arith, ltb-false i (length xs) t))
       ∙ first_place xs ∙ ap (λ (m : ℕ). first m (at xs)) e
-
--- the first of the first i names that is the name
-pub first_named : (names : List (List ℕ)) (i : ℕ) (name : List ℕ) → first i (at (λ own. same_name own name) [] (take i names)) ≡ first_name names i name
-unfolding first_name name_is
-first_named names i name = first_cong i _ _ (λ k h. ap (λ (own : List ℕ). same_name own name) (get_or-take i names k [] h))
-
--- a list is n zeros exactly where each of its n places is zero
-pub zeros_by_list : (xs : List ℕ) (n : ℕ) → length xs ≡ n → pointwise eqb xs (replicate n 0) ≡ all n (λ k. eqb (get_or xs k 0) 0)
-zeros_by_list xs n e =
-    let zeros : List ℕ = replicate n 0 in
-    let zero : (k : ℕ) → k < n → get_or zeros k 0 ≡ 0 = λ k h. get_or-replicate n k 0 0 h in
-    same_truth _ _
-    (λ t. all_true n (λ k. eqb (get_or xs k 0) 0) (λ k h. eq-eqb (get_or xs k 0) 0 (ap (λ (l : List ℕ). get_or l k 0) ((bytes_decides xs zeros).0 t) ∙ zero k h)))
-    (λ t. (bytes_decides xs zeros).1 (ext_get_or 0 xs zeros (e ∙ sym (length-replicate n 0)) (λ k h. eqb-true (get_or xs k 0) 0 (all_at n (λ j. eqb (get_or xs j 0) 0) t k (omega arith)) ∙ sym (zero k (omega arith)))))

@@ -1,15 +1,14 @@
 -- The code's way with names, and what the definitions say: places that follow each other rightly hold a name, and names get into a list of their own.
 -- Assumes nothing.
 use mathlib.Core.Path.{◌≡◌, sym, ap, ap₂, ◌∙◌}
-use mathlib.Core.List.{List, [], ◌∷◌, ◌++◌, append_assoc}
+use mathlib.Core.List.{List, []}
 use mathlib.Core.Bool.{Bool, true, not, ◌&&◌}
 use Prim.Native.Nat.{ℕ, zero, suc, ◌+◌, ◌-◌, ◌≤◌, ◌<◌}
 use native.Mathlib.Nat.{add-zero, not-suc-le-zero}
-use native.Mathlib.Numerals.{add-one}
 use native.Mathlib.Omega.{arith}
 use lib.Dec.{eqb, ltb}
-use lib.ListN.{length, get_or, take, set, replicate, length-set, get_or-replicate}
-use lib.Seq.{set_at, take-suc, length-take-le, get_or-set_same, get_or-set_other}
+use lib.ListN.{length, get_or, set, replicate, length-set, get_or-replicate}
+use lib.Seq.{get_or-set_same, get_or-set_other}
 use borrow.Author.Tests.{eq-eqb, eqb-true, eqb-false, lt-ltb, ltb-true, ltb-false}
 use Rattle.words.specs.Loop.{all}
 use Rattle.words.proofs.BoolLaws.{by_test, clash, same_truth, and_true, or_true, or_left, or_right, cond_true, cond_false, and_unit, and_assoc, sized}
@@ -22,17 +21,6 @@ use Rattle.scan.specs.Names.{name_byte, zero_at, name_length, place_ok, name_ok,
 use Rattle.shape.specs.way.Names.{next_ok, ReadNames, OutputNames}
 
 -- ---- a name's places, one after the other
-
--- eight places of which the first k are filled, and one more
-pub pad_one : (b : List ℕ) (k : ℕ) → k < length b → k < name_places → set (take k b ++ replicate (name_places - k) 0) k (get_or b k 0) ≡ take (k + 1) b ++ replicate (name_places - (k + 1)) 0
-pad_one b k h l =
-    let e : name_places - k ≡ suc (name_places - (k + 1)) = omega arith in
-    ap (λ (j : ℕ). set (take k b ++ replicate j 0) k (get_or b k 0)) e
-    ∙ set_at (take k b) 0 (replicate (name_places - (k + 1)) 0) (get_or b k 0) k (length-take-le k b (omega arith))
-    ∙ sym
-    (ap (λ (j : ℕ). take j b ++ replicate (name_places - (k + 1)) 0) (add-one k)
-    ∙ ap (λ (xs : List ℕ). xs ++ replicate (name_places - (k + 1)) 0) (take-suc b k 0 h)
-    ∙ append_assoc (take k b) (get_or b k 0 ∷ []) (replicate (name_places - (k + 1)) 0))
 
 -- byte place k is right behind the one before it
 abbrev pub follows_ok : List ℕ → ℕ → Bool

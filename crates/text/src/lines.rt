@@ -18,9 +18,9 @@ fn put_output(buf: &mut [u8], at: usize, p: OutputPoint) -> usize
     ensures { Within buf.old at (line_bytes (output_line p)) buf.new result }
 {
     let name = p.name;
-    let place = put_bytes(&mut *buf, at, b"output");
-    let end = put_name(&mut *buf, place, name);
-    put_byte(&mut *buf, end, 0x0A)
+    let place = put_bytes(buf, at, b"output");
+    let end = put_name(buf, place, name);
+    put_byte(buf, end, 0x0A)
 }
 
 // The lines of the outputs.
@@ -35,8 +35,7 @@ pub fn put_outputs(
 {
     let mut place = at;
     for j in 0..n {
-        let p = outputs[j];
-        place = put_output(&mut *buf, place, p);
+        place = put_output(buf, place, outputs[j]);
     }
     place
 }
@@ -51,10 +50,10 @@ fn put_past(
 ) -> usize
     ensures { Within buf.old at (past_bytes name (get_or names.now k [])) buf.new result }
 {
-    let place = put_bytes(&mut *buf, at, b"past");
-    let of = put_name(&mut *buf, place, name);
-    let point = put_word(&mut *buf, of, b"of");
-    put_name_at(&mut *buf, point, names, k)
+    let place = put_bytes(buf, at, b"past");
+    let of = put_name(buf, place, name);
+    let point = put_word(buf, of, b"of");
+    put_name_at(buf, point, names, k)
 }
 
 // The words of a read point.
@@ -71,11 +70,11 @@ fn put_kind<'a>(
     let name = p.name;
     match kind {
         Kind::Sensor => {
-            let place = put_bytes(&mut *buf, at, b"sensor");
-            put_name(&mut *buf, place, name)
+            let place = put_bytes(buf, at, b"sensor");
+            put_name(buf, place, name)
         }
-        Kind::PastOutput(i) => put_past(&mut *buf, at, name, outputs, i as usize),
-        Kind::PastSensor(i) => put_past(&mut *buf, at, name, reads, i as usize),
+        Kind::PastOutput(i) => put_past(buf, at, name, outputs, i as usize),
+        Kind::PastSensor(i) => put_past(buf, at, name, reads, i as usize),
     }
 }
 
@@ -89,8 +88,8 @@ fn put_read<'a>(
 ) -> usize
     ensures { Within buf.old at (line_bytes (read_line_by reads.now outputs.now p)) buf.new result }
 {
-    let end = put_kind(&mut *buf, at, p, reads, outputs);
-    put_byte(&mut *buf, end, 0x0A)
+    let end = put_kind(buf, at, p, reads, outputs);
+    put_byte(buf, end, 0x0A)
 }
 
 // The lines of the read points.
@@ -107,8 +106,7 @@ pub fn put_reads<'a>(
 {
     let mut place = at;
     for k in 0..r {
-        let p = points[k];
-        place = put_read(&mut *buf, place, p, reads, outputs);
+        place = put_read(buf, place, points[k], reads, outputs);
     }
     place
 }
@@ -118,9 +116,9 @@ fn put_rest(buf: &mut [u8], at: usize, on: bool, outputs: &[[u8; NAME_PLACES]], 
     ensures { Within buf.old at (lines_text (rest_if on (name_bytes (get_or outputs.now k [])))) buf.new result }
 {
     if on {
-        let place = put_bytes(&mut *buf, at, b"rest");
-        let end = put_name_at(&mut *buf, place, outputs, k);
-        return put_byte(&mut *buf, end, 0x0A);
+        let place = put_bytes(buf, at, b"rest");
+        let end = put_name_at(buf, place, outputs, k);
+        return put_byte(buf, end, 0x0A);
     }
     at
 }
@@ -131,7 +129,7 @@ pub fn put_rests(buf: &mut [u8], at: usize, rest: u16, outputs: &[[u8; NAME_PLAC
 {
     let mut place = at;
     for k in 0..MOST_OUTPUTS {
-        place = put_rest(&mut *buf, place, bit16(k, rest), outputs, k);
+        place = put_rest(buf, place, bit16(k, rest), outputs, k);
     }
     place
 }
@@ -147,10 +145,10 @@ fn put_constraint<'a>(
     requires { named_reads c < 2 ^ most_reads }
     ensures { Within buf.old at (line_bytes (never_line_by reads.now outputs.now c)) buf.new result }
 {
-    let first = put_bytes(&mut *buf, at, b"never");
-    let next = put_read_literals(&mut *buf, first, c, reads);
-    let end = put_output_literals(&mut *buf, next, c, outputs);
-    put_byte(&mut *buf, end, 0x0A)
+    let first = put_bytes(buf, at, b"never");
+    let next = put_read_literals(buf, first, c, reads);
+    let end = put_output_literals(buf, next, c, outputs);
+    put_byte(buf, end, 0x0A)
 }
 
 // The lines of the constraints.
@@ -167,8 +165,7 @@ pub fn put_constraints<'a>(
 {
     let mut place = at;
     for i in 0..m {
-        let c = constraints[i];
-        place = put_constraint(&mut *buf, place, c, reads, outputs);
+        place = put_constraint(buf, place, constraints[i], reads, outputs);
     }
     place
 }

@@ -17,7 +17,7 @@ fn put_and(buf: &mut [u8], at: usize, others: bool) -> usize
     ensures { Within buf.old at (spaced_words (cond others (and_word ∷ []) [])) buf.new result }
 {
     if others {
-        return put_word(&mut *buf, at, b"and");
+        return put_word(buf, at, b"and");
     }
     at
 }
@@ -27,9 +27,9 @@ fn put_state(buf: &mut [u8], at: usize, plain: bool) -> usize
     ensures { Within buf.old at (spaced_words (state_word plain ∷ [])) buf.new result }
 {
     if plain {
-        return put_word(&mut *buf, at, b"on");
+        return put_word(buf, at, b"on");
     }
-    put_word(&mut *buf, at, b"off")
+    put_word(buf, at, b"off")
 }
 
 // The rank, where the constraint names several outputs or it is not 0.
@@ -37,8 +37,8 @@ fn put_rank(buf: &mut [u8], at: usize, several: bool, rank: u8) -> usize
     ensures { Within buf.old at (spaced_words (rank_words several rank)) buf.new result }
 {
     if either(several, rank != 0) {
-        let place = put_word(&mut *buf, at, b"rank");
-        return put_number(&mut *buf, place, rank);
+        let place = put_word(buf, at, b"rank");
+        return put_number(buf, place, rank);
     }
     at
 }
@@ -58,10 +58,10 @@ fn put_literal(
     ensures { Within buf.old at (spaced_words (literal_if there others (name_bytes (get_or names.now k [])) plain several rank)) buf.new result }
 {
     if there {
-        let name = put_and(&mut *buf, at, others);
-        let state = put_name_at(&mut *buf, name, names, k);
-        let last = put_state(&mut *buf, state, plain);
-        return put_rank(&mut *buf, last, several, rank);
+        let name = put_and(buf, at, others);
+        let state = put_name_at(buf, name, names, k);
+        let last = put_state(buf, state, plain);
+        return put_rank(buf, last, several, rank);
     }
     at
 }
@@ -84,7 +84,7 @@ fn put_literals<'a>(
     for k in 0..ranks.len() {
         let there = bit32(k, named);
         place = put_literal(
-            &mut *buf,
+            buf,
             place,
             there,
             others,
@@ -131,16 +131,7 @@ pub fn put_read_literals(
 {
     let unranked = [0u8; MOST_READS];
     let named = named_reads(c);
-    put_literals(
-        &mut *buf,
-        at,
-        false,
-        names,
-        c.read_plain,
-        named,
-        &unranked,
-        false,
-    )
+    put_literals(buf, at, false, names, c.read_plain, named, &unranked, false)
 }
 
 // The literals of a constraint's outputs, behind those of its read points.
@@ -158,7 +149,7 @@ pub fn put_output_literals(
     let named = named_outputs(c);
     let several = names_several(c);
     put_literals(
-        &mut *buf,
+        buf,
         at,
         others,
         names,

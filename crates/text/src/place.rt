@@ -37,7 +37,7 @@ pub fn put_bytes(buf: &mut [u8], at: usize, bytes: &[u8]) -> usize
 {
     let mut place = at;
     for b in bytes {
-        place = put_byte(&mut *buf, place, *b);
+        place = put_byte(buf, place, *b);
     }
     place
 }
@@ -46,8 +46,8 @@ pub fn put_bytes(buf: &mut [u8], at: usize, bytes: &[u8]) -> usize
 pub fn put_word(buf: &mut [u8], at: usize, word: &[u8]) -> usize
     ensures { Within buf.old at (spaced_words (word.now ∷ [])) buf.new result }
 {
-    let place = put_byte(&mut *buf, at, 0x20);
-    put_bytes(&mut *buf, place, word)
+    let place = put_byte(buf, at, 0x20);
+    put_bytes(buf, place, word)
 }
 
 // A name.
@@ -55,7 +55,7 @@ pub fn put_name(buf: &mut [u8], at: usize, name: [u8; NAME_PLACES]) -> usize
     ensures { Within buf.old at (spaced_words (name_bytes name ∷ [])) buf.new result }
 {
     let len = name_length(name);
-    put_word(&mut *buf, at, &name[0..len])
+    put_word(buf, at, &name[0..len])
 }
 
 // Name k of a list of names; none where the list is shorter.
@@ -64,9 +64,9 @@ pub fn put_name_at(buf: &mut [u8], at: usize, names: &[[u8; NAME_PLACES]], k: us
 {
     if k < names.len() {
         let name = names[k];
-        return put_name(&mut *buf, at, name);
+        return put_name(buf, at, name);
     }
-    put_byte(&mut *buf, at, 0x20)
+    put_byte(buf, at, 0x20)
 }
 
 // A number.
@@ -74,5 +74,5 @@ pub fn put_number(buf: &mut [u8], at: usize, n: u8) -> usize
     ensures { Within buf.old at (spaced_words (decimal n ∷ [])) buf.new result }
 {
     let digits = digits_of(n as usize);
-    put_word(&mut *buf, at, digits.as_slice())
+    put_word(buf, at, digits.as_slice())
 }

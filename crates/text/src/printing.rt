@@ -44,16 +44,9 @@ fn put_lines(buf: &mut [u8], set: Set) -> usize
     let constraints = set.constraints;
     let read_names = names_of_reads(points);
     let output_names = names_of_outputs(outputs);
-    let first = put_outputs(&mut *buf, 0, outputs, set.n);
-    let next = put_reads(&mut *buf, first, points, set.r, &read_names, &output_names);
-    let then = put_rests(&mut *buf, next, set.rest, &output_names);
-    let last = put_constraints(
-        &mut *buf,
-        then,
-        constraints,
-        set.m,
-        &read_names,
-        &output_names,
-    );
-    put_bytes(&mut *buf, last, b"end\n")
+    let first = put_outputs(buf, 0, outputs, set.n);
+    let next = put_reads(buf, first, points, set.r, &read_names, &output_names);
+    let then = put_rests(buf, next, set.rest, &output_names);
+    let last = put_constraints(buf, then, constraints, set.m, &read_names, &output_names);
+    put_bytes(buf, last, b"end\n")
 }

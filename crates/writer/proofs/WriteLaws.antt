@@ -8,9 +8,10 @@ use native.Mathlib.Nat.{add-zero, zero-add}
 use native.Mathlib.Numerals.{add-one}
 use native.Mathlib.Omega.{arith}
 use lib.ListN.{length, get_or, take, drop, set, length-append, length-take, length-drop, take-append-drop}
-use lib.Seq.{take-suc, set_split, sets-eq, take_at, drop-append-add, drop-drop, length-take-le}
+use lib.Seq.{take-suc, sets-eq, take_at, drop-append-add, drop-drop, length-take-le}
 use lib.Dec.{leb, ltb}
 use borrow.Author.Tests.{lt-ltb, le-ltb, le-leb, lt-leb, eq-eqb, ne_eqb}
+use borrow.Rule.Slice.PartMut.{put_mid}
 use Rattle.words.proofs.LoopTurns.{Grows}
 use Rattle.scan.specs.declared.set.Kind.{Kind}
 use Rattle.scan.specs.declared.set.Kind.TheVariants.{Sensor, PastOutput, PastSensor}
@@ -55,22 +56,6 @@ put_then buf at x y mid after next place h p q = (
   q.0 ∙ ap₂ (λ (l : List ℕ) (k : ℕ). put_at l k y) p.0 p.1 ∙ put_put buf at x y h,
   omega (arith, p.1, q.1, length-append x y),
 )
-
--- one byte
-pub put_byte : (buf : List ℕ) (at b : ℕ) → at < length buf → set buf at b ≡ put_at buf at (b ∷ [])
-put_byte buf at b h = set_split buf at b h ∙ ap (λ (k : ℕ). take at buf ++ (b ∷ drop k buf)) (sym (add-one at))
-
--- one byte more of a list's first i, which are in place
-pub put_next : (buf : List ℕ) (at : ℕ) (bytes : List ℕ) (i : ℕ) → at + i < length buf → i < length bytes
-    → set (put_at buf at (take i bytes)) (at + i) (get_or bytes i 0) ≡ put_at buf at (take (i + 1) bytes)
-put_next buf at bytes i h g =
-    let b : ℕ = get_or bytes i 0 in
-    let x : List ℕ = take i bytes in
-    let long : length x ≡ i = length-take-le i bytes (omega arith) in
-    put_byte (put_at buf at x) (at + i) b (omega (arith, put_kept buf at x (omega arith)))
-    ∙ ap (λ (k : ℕ). put_at (put_at buf at x) (at + k) (b ∷ [])) (sym long)
-    ∙ put_put buf at x (b ∷ []) (omega arith)
-    ∙ ap (put_at buf at) (sym (ap (λ (k : ℕ). take k bytes) (add-one i) ∙ take-suc bytes i 0 g))
 
 -- two bytes stored one after the other
 pub put_two : (buf : List ℕ) (at x y : ℕ) → at + 2 ≤ length buf → set (set buf at x) (at + 1) y ≡ put_at buf at (x ∷ y ∷ [])
@@ -158,6 +143,11 @@ fields_grow tag body xs n d few = record { none = refl; one = λ k h. fields_mor
 -- the invariant of a loop that puts parts: the first k are in place
 abbrev pub Puts : (ℕ → List ℕ) → ℕ → List ℕ → ℕ → List ℕ → ℕ → ℕ → Type 0
 Puts whole n buf at after next k = (k ≤ n) × Put buf at (whole k) after next
+
+-- bytes copied over as many places
+pub put_over : (buf : List ℕ) (at k : ℕ) (bytes : List ℕ) → k ≡ length bytes → put_mid at k buf bytes ≡ put_at buf at bytes
+put_over buf at k bytes e =
+    ap (λ (l : List ℕ). take at buf ++ (bytes ++ l)) (drop-drop k at buf ∙ ap (λ (j : ℕ). drop (at + j) buf) e)
 
 -- the invariant of a loop that adds up lengths: that of the first k parts
 abbrev pub Counted : (ℕ → List ℕ) → ℕ → ℕ → ℕ → Type 0

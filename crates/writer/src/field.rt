@@ -51,13 +51,7 @@ pub fn put_header(buf: &mut [u8], at: usize, tag: u8, len: usize) -> usize
     requires { (at + 3 ≤ length buf.old) × (len < 65536) }
     ensures { Put buf.old at (tag ∷ len / 256 ∷ len % 256 ∷ []) buf.new result }
 {
-    put_three(
-        &mut *buf,
-        at,
-        tag,
-        (len / 256 % 256) as u8,
-        (len % 256) as u8,
-    )
+    put_three(buf, at, tag, (len / 256 % 256) as u8, (len % 256) as u8)
 }
 
 // The `len` bytes of a name.
@@ -65,9 +59,7 @@ fn put_name(buf: &mut [u8], at: usize, name: [u8; NAME_PLACES], len: usize) -> u
     requires { (len ≡ length (name_bytes name)) × (at + length (name_bytes name) ≤ length buf.old) }
     ensures { Put buf.old at (name_bytes name) buf.new result }
 {
-    for k in 0..len {
-        buf[at + k] = name[k];
-    }
+    buf[at..at + len].copy_from_slice(&name[..len]);
     at + len
 }
 
@@ -77,9 +69,9 @@ fn put_kind(buf: &mut [u8], at: usize, kind: Kind) -> usize
     ensures { Put buf.old at (kind_bytes kind) buf.new result }
 {
     match kind {
-        Kind::Sensor => put_two(&mut *buf, at, 0, 0),
-        Kind::PastOutput(i) => put_two(&mut *buf, at, 1, i),
-        Kind::PastSensor(i) => put_two(&mut *buf, at, 2, i),
+        Kind::Sensor => put_two(buf, at, 0, 0),
+        Kind::PastOutput(i) => put_two(buf, at, 1, i),
+        Kind::PastSensor(i) => put_two(buf, at, 2, i),
     }
 }
 
@@ -88,8 +80,8 @@ pub fn put_counts(buf: &mut [u8], at: usize, r: usize, n: usize) -> usize
     requires { (r ≤ most_reads) × (n ≤ most_outputs) × (at + 5 ≤ length buf.old) }
     ensures { Put buf.old at (field_of 0x01 (r ∷ n ∷ [])) buf.new result }
 {
-    let body = put_header(&mut *buf, at, TAG_COUNTS, 2);
-    put_two(&mut *buf, body, r as u8, n as u8)
+    let body = put_header(buf, at, TAG_COUNTS, 2);
+    put_two(buf, body, r as u8, n as u8)
 }
 
 // The field of a read point.
@@ -100,9 +92,9 @@ pub fn put_read(buf: &mut [u8], at: usize, p: ReadPoint) -> usize
     let kind = p.kind;
     let name = p.name;
     let len = name_length(name);
-    let body = put_header(&mut *buf, at, TAG_READ, 2 + len);
-    let next = put_kind(&mut *buf, body, kind);
-    put_name(&mut *buf, next, name, len)
+    let body = put_header(buf, at, TAG_READ, 2 + len);
+    let next = put_kind(buf, body, kind);
+    put_name(buf, next, name, len)
 }
 
 // The field of an output.
@@ -112,8 +104,8 @@ pub fn put_output(buf: &mut [u8], at: usize, p: OutputPoint) -> usize
 {
     let name = p.name;
     let len = name_length(name);
-    let body = put_header(&mut *buf, at, TAG_OUTPUT, len);
-    put_name(&mut *buf, body, name, len)
+    let body = put_header(buf, at, TAG_OUTPUT, len);
+    put_name(buf, body, name, len)
 }
 
 // The field of the rest word; nothing where it is 0.
@@ -124,8 +116,8 @@ pub fn put_rest(buf: &mut [u8], at: usize, rest: u16) -> usize
     if rest == 0 {
         return at;
     }
-    let body = put_header(&mut *buf, at, TAG_REST, 2);
-    put_two(&mut *buf, body, (rest / 256) as u8, (rest % 256) as u8)
+    let body = put_header(buf, at, TAG_REST, 2);
+    put_two(buf, body, (rest / 256) as u8, (rest % 256) as u8)
 }
 
 // The flags of a literal's point, with the top bit set where it is negated.
@@ -142,9 +134,9 @@ fn put_literal(buf: &mut [u8], at: usize, wide: bool, flags: u8, number: u8, ran
     ensures { Put buf.old at (literal_bytes wide flags number rank) buf.new result }
 {
     if wide {
-        return put_three(&mut *buf, at, flags, number, rank);
+        return put_three(buf, at, flags, number, rank);
     }
-    put_two(&mut *buf, at, flags + number, rank)
+    put_two(buf, at, flags + number, rank)
 }
 
 // The literals of the points that are named, each with its rank. Each turn takes the lowest point that is left.
@@ -165,7 +157,7 @@ fn put_literals(
     while 0 < left {
         let k = u32::trailing_zeros(left) as usize;
         let own = signed((plain >> k) % 2 == 1, flags);
-        next = put_literal(&mut *buf, next, wide, own, k as u8, ranks[k]);
+        next = put_literal(buf, next, wide, own, k as u8, ranks[k]);
         left = left & (left - 1);
     }
     next
@@ -180,9 +172,9 @@ fn put_body(buf: &mut [u8], at: usize, c: Constraint, wide: bool) -> usize
     let ranks = c.ranks;
     let reads = c.read_plain | c.read_negated;
     let outputs = c.out_plain | c.out_negated;
-    let next = put_literals(&mut *buf, at, wide, 0, c.read_plain, reads, &unranked);
+    let next = put_literals(buf, at, wide, 0, c.read_plain, reads, &unranked);
     put_literals(
-        &mut *buf,
+        buf,
         next,
         wide,
         0x40,
@@ -199,6 +191,6 @@ pub fn put_constraint(buf: &mut [u8], at: usize, c: Constraint) -> usize
 {
     let wide = names_high(c);
     let len = literals_length(c, wide);
-    let body = put_header(&mut *buf, at, tag_by(wide), len);
-    put_body(&mut *buf, body, c, wide)
+    let body = put_header(buf, at, tag_by(wide), len);
+    put_body(buf, body, c, wide)
 }

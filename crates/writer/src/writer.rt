@@ -48,9 +48,7 @@ fn reads_length(reads: [ReadPoint; MOST_READS], r: usize) -> usize
 {
     let mut len: usize = 0;
     for k in 0..r {
-        let p = reads[k];
-        let name = p.name;
-        len = len + 5 + name_length(name);
+        len += 5 + name_length(reads[k].name);
     }
     len
 }
@@ -61,9 +59,7 @@ fn outputs_length(outputs: [OutputPoint; MOST_OUTPUTS], n: usize) -> usize
 {
     let mut len: usize = 0;
     for j in 0..n {
-        let p = outputs[j];
-        let name = p.name;
-        len = len + 3 + name_length(name);
+        len += 3 + name_length(outputs[j].name);
     }
     len
 }
@@ -81,8 +77,7 @@ fn constraints_length(constraints: [Constraint; MOST_CONSTRAINTS], m: usize) -> 
 {
     let mut len: usize = 0;
     for i in 0..m {
-        let c = constraints[i];
-        len = len + 3 + body_length(c);
+        len += 3 + body_length(constraints[i]);
     }
     len
 }
@@ -94,8 +89,7 @@ fn put_reads(buf: &mut [u8], at: usize, reads: [ReadPoint; MOST_READS], r: usize
 {
     let mut next = at;
     for k in 0..r {
-        let p = reads[k];
-        next = put_read(&mut *buf, next, p);
+        next = put_read(buf, next, reads[k]);
     }
     next
 }
@@ -107,8 +101,7 @@ fn put_outputs(buf: &mut [u8], at: usize, outputs: [OutputPoint; MOST_OUTPUTS], 
 {
     let mut next = at;
     for j in 0..n {
-        let p = outputs[j];
-        next = put_output(&mut *buf, next, p);
+        next = put_output(buf, next, outputs[j]);
     }
     next
 }
@@ -125,8 +118,7 @@ fn put_constraints(
 {
     let mut next = at;
     for i in 0..m {
-        let c = constraints[i];
-        next = put_constraint(&mut *buf, next, c);
+        next = put_constraint(buf, next, constraints[i]);
     }
     next
 }
@@ -139,10 +131,10 @@ fn put_file(buf: &mut [u8], set: Set)
     let reads = set.reads;
     let outputs = set.outputs;
     let constraints = set.constraints;
-    let reads_at = put_counts(&mut *buf, 0, set.r, set.n);
-    let outputs_at = put_reads(&mut *buf, reads_at, reads, set.r);
-    let rest_at = put_outputs(&mut *buf, outputs_at, outputs, set.n);
-    let constraints_at = put_rest(&mut *buf, rest_at, set.rest);
-    let end = put_constraints(&mut *buf, constraints_at, constraints, set.m);
-    put_header(&mut *buf, end, TAG_END, 0);
+    let reads_at = put_counts(buf, 0, set.r, set.n);
+    let outputs_at = put_reads(buf, reads_at, reads, set.r);
+    let rest_at = put_outputs(buf, outputs_at, outputs, set.n);
+    let constraints_at = put_rest(buf, rest_at, set.rest);
+    let end = put_constraints(buf, constraints_at, constraints, set.m);
+    put_header(buf, end, TAG_END, 0);
 }

@@ -39,7 +39,7 @@ loop-i-preserved c =
     let s = c in
     let l = c.loop-i in
     let b = c.body_length in (
-      counted_one (constraints_grow s.args.constraints s.args.m (few (goal.at.loop-i-preserved c).Start)) l.len l.i (l.len + 3 + b.result) l.invariant.0 c.loop-i-test.true
+      counted_one (constraints_grow s.args.constraints s.args.m (few (goal.at.loop-i-preserved c).Start)) l.len l.i (l.len + (3 + b.result)) l.invariant.0 c.loop-i-test.true
           (omega (arith, b.ensures.0)),
       omega (arith, l.invariant.1, b.ensures.1),
     )

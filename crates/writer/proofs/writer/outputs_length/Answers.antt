@@ -35,7 +35,7 @@ loop-j-preserved c =
     let s = c in
     let l = c.loop-j in
     let n = c.name_length in (
-      counted_one (outputs_grow s.args.outputs s.args.n (few (goal.at.loop-j-preserved c).Start)) l.len l.j (l.len + 3 + n.result) l.invariant.0 c.loop-j-test.true
+      counted_one (outputs_grow s.args.outputs s.args.n (few (goal.at.loop-j-preserved c).Start)) l.len l.j (l.len + (3 + n.result)) l.invariant.0 c.loop-j-test.true
           (omega (arith, n.ensures.0)),
       omega (arith, l.invariant.1, n.ensures.1),
     )

@@ -35,7 +35,7 @@ loop-k-preserved c =
     let s = c in
     let l = c.loop-k in
     let n = c.name_length in (
-      counted_one (reads_grow s.args.reads s.args.r (few (goal.at.loop-k-preserved c).Start)) l.len l.k (l.len + 5 + n.result) l.invariant.0 c.loop-k-test.true
+      counted_one (reads_grow s.args.reads s.args.r (few (goal.at.loop-k-preserved c).Start)) l.len l.k (l.len + (5 + n.result)) l.invariant.0 c.loop-k-test.true
           (omega (arith, n.ensures.0, read_long (get_or s.args.reads l.k no_read))),
       omega (arith, l.invariant.1, n.ensures.1),
     )
