@@ -10,6 +10,7 @@ use super::pick::keep16;
 use super::set::{MOST_CONSTRAINTS, Set};
 use choice::{both, least};
 
+// Two words or an output, and no Result: neither is a failure, and document 01 and the theorems name F0, F1 and the clash.
 // What the simple constraints force: the outputs held to 0 (F0) and to 1 (F1); or, where one is forced both ways, the lowest such output.
 #[derive(Clone, Copy)]
 pub enum Holds {
