@@ -9,6 +9,7 @@ use super::columns::{Columns, columns_of};
 use super::set::{MOST_CONSTRAINTS, Set};
 use choice::{both, pick};
 
+// Two words or an output, and no Result: neither is a failure, and document 01 and the theorems name F0, F1 and the clash.
 // What the simple constraints force: the outputs held to 0 (F0) and to 1 (F1); or, where one is forced both ways, the lowest such output.
 #[derive(Clone, Copy)]
 pub enum Holds {

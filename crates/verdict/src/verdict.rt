@@ -37,9 +37,9 @@ fn first_failing(
     ensures value { result ≡ first_failing set.now }
     ensures known { Known set.now (fails set.now) seen.new }
 {
-    let words = 1u32 << set.r;
-    // 2 ^ n by its low bits, for speed: a test against a shifted 1 becomes a shift at every request
-    let requests = words::low16(set.n) + 1;
+    // no shifted 1, for speed: the test against it would become a shift at every word and request
+    let words = 2u32.pow(set.r as u32);
+    let requests = 2u16.pow(set.n as u32);
     let by = columns_of(set);
     let lows = by.lows();
     let mut high: u64 = 0;

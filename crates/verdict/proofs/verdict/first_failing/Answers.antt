@@ -39,10 +39,6 @@ use Rattle.verdict.proofs.verdict.first_failing.Goals.{After-active_in-active, A
 few : (c : Start) → (c.args.set.now.r ≤ most_reads) × (c.args.set.now.n ≤ most_outputs)
 few c = let n = counts c.args.set.now c.requires.0 in (n.r_le, n.n_le)
 
--- the low bits of n outputs, and one more, are 2 ^ n
-low16-told : (n r : ℕ) → r ≡ low (min n 16) → n ≤ most_outputs → r ≡ 2 ^ n - 1
-low16-told n r e few = e ∙ ap low (min-eq_left {m = 16} (omega arith))
-
 -- ---- a word, its active constraints, its table, its marks
 
 -- what the code makes of the literals, of what it keeps of the block and of the word is the mask of the word's active constraints
@@ -101,24 +97,23 @@ module _ (c : After-settle) (table : c.table-t.result ≡ table_of c.args.set.no
       c.loop-g.marks c.loop-g.invariant.1 c.loop-g.g fits c.start_vector.result c.start_vector.ensures
       c.settle.result _ c.settle.ensures.value c.settle.ensures.marks_after
 
-pub overflow_cast-words : goal.overflow_cast-words
-overflow_cast-words c = omega (arith, few (goal.at.overflow_cast-words c).Start)
+pub overflow_cast-set : goal.overflow_cast-set
+overflow_cast-set c = omega (arith, few (goal.at.overflow_cast-set c).Start)
 
-pub overflow_shl-words : goal.overflow_shl-words
-overflow_shl-words c = omega (arith, few (goal.at.overflow_shl-words c).Start)
+pub pow-words-requires : goal.pow-words-requires
+pow-words-requires c = let f = few (goal.at.pow-words-requires c).Start in omega (arith, pow_mono {i = c.args.set.now.r} {j = most_reads} f.0)
 
-pub overflow_add-requests : goal.overflow_add-requests
-overflow_add-requests c =
-    let n = c.args.set.now.n in
-    let f = (few (goal.at.overflow_add-requests c).Start).1 in
-    omega (arith, low16-told n c.low16-requests.result c.low16-requests.ensures f, pow_mono {i = n} {j = most_outputs} f)
+pub overflow_cast-set-2 : goal.overflow_cast-set-2
+overflow_cast-set-2 c = omega (arith, few (goal.at.overflow_cast-set-2 c).Start)
+
+pub pow-requests-requires : goal.pow-requests-requires
+pow-requests-requires c = let f = few (goal.at.pow-requests-requires c).Start in omega (arith, pow_mono {i = c.args.set.now.n} {j = most_outputs} f.1)
 
 pub words-init : goal.words-init
 words-init c =
-    let f = few (goal.at.words-init c).Start in
     let l = c.columns_of-by.result in (
-      one_shl 32 c.args.set.now.r (omega (arith, f)),
-      omega (arith, low16-told c.args.set.now.n c.low16-requests.result c.low16-requests.ensures f.1, pow_pos c.args.set.now.n),
+      c.pow-words.ensures,
+      c.pow-requests.ensures,
       refl,
       c.requires.1,
       c.requires.2,
