@@ -24,8 +24,8 @@ there c =
     sym c.field_at.ensures ∙ found
 
 -- The tag is due.
-due-here : (c : Else-not-is_due) → is_due c.args.due c.in_ok-field.field.tag ≡ true
-due-here c = sym c.is_due.ensures ∙ c.if-not-is_due.false
+due_here : (c : Else-not-is_due) → is_due c.args.due c.in_ok-field.field.tag ≡ true
+due_here c = sym c.is_due.ensures ∙ c.if-not-is_due.false
 
 -- It is no constraint too many.
 few : (tag m : ℕ) (is : Bool) → is ≡ is_constraint tag → ((is ≡ true) × (m < most_constraints)) ⊎ (is ≡ false) → (is_constraint tag && leb most_constraints m) ≡ false
@@ -50,18 +50,18 @@ returns-then-m-ge-MOST_CONSTRAINTS c =
     let e = (goal.at.returns-then-m-ge-MOST_CONSTRAINTS c).Else-not-is_due in
     let f = (goal.at.returns-then-m-ge-MOST_CONSTRAINTS c).In_ok-field in
     let a = c.args in
-    sym (too_many (drop a.at a.s.now) a.due a.m _ _ (there f) (due-here e) (simp (sym c.is_constraint.ensures ∙ c.if-is_constraint.true, le-leb _ _ c.if-m-ge-MOST_CONSTRAINTS.true)))
+    sym (too_many (drop a.at a.s.now) a.due a.m _ _ (there f) (due_here e) (simp (sym c.is_constraint.ensures ∙ c.if-is_constraint.true, le-leb _ _ c.if-m-ge-MOST_CONSTRAINTS.true)))
 
 pub returns-then-not-fits_table : goal.returns-then-not-fits_table
 returns-then-not-fits_table c =
     let e = (goal.at.returns-then-not-fits_table c).Else-not-is_due in
     let f = (goal.at.returns-then-not-fits_table c).In_ok-field in
     let a = c.args in
-    sym (not_in_table (drop a.at a.s.now) a.due a.m _ _ (there f) (due-here e) (few c.in_ok-field.field.tag a.m c.is_constraint.result c.is_constraint.ensures c.else-is_constraint.either) (sym c.fits_table.ensures ∙ c.if-not-fits_table.true))
+    sym (not_in_table (drop a.at a.s.now) a.due a.m _ _ (there f) (due_here e) (few c.in_ok-field.field.tag a.m c.is_constraint.result c.is_constraint.ensures c.else-is_constraint.either) (sym c.fits_table.ensures ∙ c.if-not-fits_table.true))
 
 pub returns : goal.returns
 returns c =
     let e = (goal.at.returns c).Else-not-is_due in
     let f = (goal.at.returns c).In_ok-field in
     let a = c.args in
-    sym (a_field (drop a.at a.s.now) a.due a.m _ _ (there f) (due-here e) (few c.in_ok-field.field.tag a.m c.is_constraint.result c.is_constraint.ensures c.else-is_constraint.either) (sym c.fits_table.ensures ∙ c.if-not-fits_table.false))
+    sym (a_field (drop a.at a.s.now) a.due a.m _ _ (there f) (due_here e) (few c.in_ok-field.field.tag a.m c.is_constraint.result c.is_constraint.ensures c.else-is_constraint.either) (sym c.fits_table.ensures ∙ c.if-not-fits_table.false))

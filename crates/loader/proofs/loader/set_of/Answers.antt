@@ -24,29 +24,29 @@ counted : (c : In_ok-r) → let s = c.args.file.now in
 unfolding load_from
 counted c = let s = c.args.file.now in goes (counts_at s) (after_counts s) (λ y. of_counts y.r y.n) c.counts_at.result c.counts_at.ensures _ c.in_ok-r.was
 
-loaded-reads : (c : In_ok-reads) → let s = c.args.file.now in
+loaded_reads : (c : In_ok-reads) → let s = c.args.file.now in
     let k = c.in_ok-r.field-0-0 in
     after_counts s c.in_ok-r.at (of_counts k.r k.n) ≡ after_reads s c.in_ok-reads.at (with_reads (of_counts k.r k.n) c.in_ok-reads.reads)
-loaded-reads c =
+loaded_reads c =
     let s = c.args.file.now in
     let k = c.in_ok-r.field-0-0 in
     goes (reads_from s k.r 0 c.in_ok-r.at (of_counts k.r k.n)) (after_reads s) (with_reads (of_counts k.r k.n)) c.reads_at.result c.reads_at.ensures.0 _ c.in_ok-reads.was
 
-loaded-outputs : (c : In_ok-outputs) → let s = c.args.file.now in
+loaded_outputs : (c : In_ok-outputs) → let s = c.args.file.now in
     let k = c.in_ok-r.field-0-0 in
     after_reads s c.in_ok-reads.at (with_reads (of_counts k.r k.n) c.in_ok-reads.reads) ≡ after_outputs s c.in_ok-outputs.at (points_set k.r k.n c.in_ok-reads.reads c.in_ok-outputs.outputs)
-loaded-outputs c =
+loaded_outputs c =
     let s = c.args.file.now in
     let k = c.in_ok-r.field-0-0 in
     let reads = c.in_ok-reads.reads in
     let so_far = with_reads (of_counts k.r k.n) reads in
     goes (outputs_from s k.n 0 c.in_ok-reads.at so_far) (after_outputs s) (with_outputs so_far) c.outputs_at.result (c.outputs_at.ensures reads c.in_ok-reads.ensures.1) _ c.in_ok-outputs.was
 
-loaded-rest : (c : In_ok-rest) → let s = c.args.file.now in
+loaded_rest : (c : In_ok-rest) → let s = c.args.file.now in
     let k = c.in_ok-r.field-0-0 in
     after_outputs s c.in_ok-outputs.at (points_set k.r k.n c.in_ok-reads.reads c.in_ok-outputs.outputs)
     ≡ after_rest s c.in_ok-rest.at (rested_set k.r k.n c.in_ok-rest.rest c.in_ok-reads.reads c.in_ok-outputs.outputs)
-loaded-rest c =
+loaded_rest c =
     let s = c.args.file.now in
     let k = c.in_ok-r.field-0-0 in
     let reads = c.in_ok-reads.reads in
@@ -90,7 +90,7 @@ returns-in_err-outputs c =
     let r = c.in_err-outputs.field-0.0 in
     let refused : c.from_residual-in_err-outputs.result ≡ Err r = grind arith in
     ap set_told refused
-    ∙ sym (ap answered (counted p.In_ok-r ∙ loaded-reads p.In_ok-reads
+    ∙ sym (ap answered (counted p.In_ok-r ∙ loaded_reads p.In_ok-reads
     ∙ stays (outputs_from s k.n 0 c.in_ok-reads.at so_far) (after_outputs s) (with_outputs so_far) c.outputs_at.result (c.outputs_at.ensures reads c.in_ok-reads.ensures.1) r c.in_err-outputs.was))
 
 pub returns-in_err-rest : goal.returns-in_err-rest
@@ -103,7 +103,7 @@ returns-in_err-rest c =
     let r = c.in_err-rest.field-0.0 in
     let refused : c.from_residual-in_err-rest.result ≡ Err r = grind arith in
     ap set_told refused
-    ∙ sym (ap answered (counted p.In_ok-r ∙ loaded-reads p.In_ok-reads ∙ loaded-outputs p.In_ok-outputs
+    ∙ sym (ap answered (counted p.In_ok-r ∙ loaded_reads p.In_ok-reads ∙ loaded_outputs p.In_ok-outputs
     ∙ stays (rest_at s c.in_ok-outputs.at (points_set k.r k.n reads outputs)) (after_rest s) (λ rest. rested_set k.r k.n rest reads outputs) c.rest_at.result
     (rest_stepped s c.in_ok-outputs.at k.r k.n reads outputs c.rest_at.result c.rest_at.ensures) r c.in_err-rest.was))
 
@@ -121,7 +121,7 @@ returns-in_err-m c =
     let refused : c.from_residual-in_err-m.result ≡ Err r = grind arith in
     ap set_told refused
     ∙ ap answered (sym (ap (λ x. reached_by x (λ y. whole_set k.r k.n y.m rest reads outputs y.list)) c.in_err-m.was) ∙ c.constraints_at.ensures rest reads outputs
-    ∙ sym (counted p.In_ok-r ∙ loaded-reads p.In_ok-reads ∙ loaded-outputs p.In_ok-outputs ∙ loaded-rest p.In_ok-rest))
+    ∙ sym (counted p.In_ok-r ∙ loaded_reads p.In_ok-reads ∙ loaded_outputs p.In_ok-outputs ∙ loaded_rest p.In_ok-rest))
 
 pub returns : goal.returns
 returns c =
@@ -131,4 +131,4 @@ returns c =
     let outputs = c.in_ok-outputs.outputs in
     let rest = c.in_ok-rest.rest in
     ap answered (sym (ap (λ x. reached_by x (λ y. whole_set k.r k.n y.m rest reads outputs y.list)) c.in_ok-m.was) ∙ c.constraints_at.ensures rest reads outputs
-    ∙ sym (counted p.In_ok-r ∙ loaded-reads p.In_ok-reads ∙ loaded-outputs p.In_ok-outputs ∙ loaded-rest p.In_ok-rest))
+    ∙ sym (counted p.In_ok-r ∙ loaded_reads p.In_ok-reads ∙ loaded_outputs p.In_ok-outputs ∙ loaded_rest p.In_ok-rest))
