@@ -16,14 +16,14 @@ use Rattle.scan.specs.Walk.{walk_held, walk}
 use Rattle.machine.specs.Past.{sensor_before, reading, reading_at, read_word}
 use Rattle.machine.specs.Machine.{state_ok, is_past, sensor_ok, request_ok, scan_of}
 use Rattle.machine.proofs.MachineLaws.{answer_by, scan_answer}
-use Rattle.scan.proofs.LoneRanks.{AlikeButLone, F0-alike, F1-alike, unheld_alike, safe_alike, pass_alike}
+use Rattle.scan.proofs.LoneRanks.{AlikeButLone, f0_alike, f1_alike, unheld_alike, safe_alike, pass_alike}
 
 module _ (s t : Set) (a : AlikeButLone s t) (w : ℕ) where
   -- every walk is the same
   pub walk_alike : (request : ℕ) → walk s w request ≡ walk t w request
   unfolding walk unheld_count
   walk_alike g = λ i.
-      walk_held (fun_ext (safe_alike s t a w) i) (fun_ext (pass_alike s t a w) i) (2 ^ popcount (unheld_alike s t a w i) - 1) g (reckoned (F0-alike s t a w i) (F1-alike s t a w i))
+      walk_held (fun_ext (safe_alike s t a w) i) (fun_ext (pass_alike s t a w) i) (2 ^ popcount (unheld_alike s t a w i) - 1) g (reckoned (f0_alike s t a w i) (f1_alike s t a w i))
 
 module _ (s t : Set) (a : AlikeButLone s t) (formed : well_formed s ≡ well_formed t) (output sensor : ℕ) (accepted : Bool) (present request : ℕ) where
   -- the past sensor word that the scan reads

@@ -17,7 +17,7 @@ use Rattle.scan.specs.Holds.{F0, F1, both_ways, LowestBoth, NoneBoth, holds_of}
 use Rattle.scan.specs.Told.{holds_told}
 use Rattle.scan.specs.way.Holds.{holds_at}
 use Rattle.scan.proofs.ShapeLaws.{counts}
-use Rattle.scan.proofs.HoldsLaws.{F0-lt, F1-lt, reckoned_clash, reckoned_forced, by_reckoned, reckoned_says}
+use Rattle.scan.proofs.HoldsLaws.{f0_lt, f1_lt, reckoned_clash, reckoned_forced, by_reckoned, reckoned_says}
 use Rattle.scan.proofs.SafeLaws.{clash_unsafe}
 use Rattle.scan.proofs.ActiveLaws.{holds_at_law}
 use Rattle.scan.proofs.TableLaws.{table_holds, table_stopped}
@@ -54,7 +54,7 @@ module _ (s : Set) (ok : well_formed s ≡ true) (w : ℕ) where
   -- it is one of the outputs
   output_fits : (k : ℕ) → BothWays s w k → k < 16
   output_fits k b =
-      let below = bit_below s.n k (F0 s w) (F0-lt s w ok) ((f0_iff s ok w k).1 b.0) in
+      let below = bit_below s.n k (F0 s w) (f0_lt s w ok) ((f0_iff s ok w k).1 b.0) in
       omega (arith, below, (counts s ok).n_le)
 
   pub lowest_iff : (k : ℕ) → LowestBoth (F0 s w) (F1 s w) k ↔ LowestClash s w k
@@ -81,8 +81,8 @@ module _ (s : Set) (ok : well_formed s ≡ true) (w : ℕ) where
   forced_words = record {
     off = λ k. (λ b. (f0_iff s ok w k).0 (set_bit k (F0 s w) b), λ a. bit_set k (F0 s w) ((f0_iff s ok w k).1 a));
     on = λ k. (λ b. (f1_iff s ok w k).0 (set_bit k (F1 s w) b), λ a. bit_set k (F1 s w) ((f1_iff s ok w k).1 a));
-    off_fits = F0-lt s w ok;
-    on_fits = F1-lt s w ok;
+    off_fits = f0_lt s w ok;
+    on_fits = f1_lt s w ok;
   }
 
   -- two words below 2 ^ n that say the same of each output are one
@@ -92,8 +92,8 @@ module _ (s : Set) (ok : well_formed s ≡ true) (w : ℕ) where
 
   words_are : (f0 f1 : ℕ) → ForcedWords s w f0 f1 → (F0 s w ≡ f0) × (F1 s w ≡ f1)
   words_are f0 f1 f = (
-    one_word (HeldOff s w) (F0 s w) f0 (F0-lt s w ok) f.off_fits (f0_iff s ok w) f.off,
-    one_word (HeldOn s w) (F1 s w) f1 (F1-lt s w ok) f.on_fits (f1_iff s ok w) f.on,
+    one_word (HeldOff s w) (F0 s w) f0 (f0_lt s w ok) f.off_fits (f0_iff s ok w) f.off,
+    one_word (HeldOn s w) (F1 s w) f1 (f1_lt s w ok) f.on_fits (f1_iff s ok w) f.on,
   )
 
   -- ---- the reckoning

@@ -16,7 +16,7 @@ use Rattle.scan.specs.Shape.{well_formed}
 use Rattle.scan.specs.Constraint.{reads_true, simple}
 use Rattle.scan.specs.Holds.{holding, F0, F1, unheld_count, start_vector}
 use Rattle.scan.proofs.ShapeLaws.{masks}
-use Rattle.scan.proofs.HoldsLaws.{held, F0-bit, F1-bit, start_bit, start_lt, unheld_counted}
+use Rattle.scan.proofs.HoldsLaws.{held, f0_bit, f1_bit, start_bit, start_lt, unheld_counted}
 use Rattle.promise.specs.Terms.{Bit, Simple, ReadsTrue, HeldOff, HeldOn, Held, IsUnheldCount}
 use Rattle.promise.specs.Meanings.{HoldsMean}
 use Rattle.promise.proofs.Bits.{bit_set, set_bit}
@@ -48,10 +48,10 @@ module _ (s : Set) (ok : well_formed s ≡ true) (w : ℕ) where
   )
 
   pub f0_iff : (k : ℕ) → (bit k (F0 s w) ≡ true) ↔ HeldOff s w k
-  f0_iff k = let by = held_by (λ (c : Constraint). c.out_plain) k in (λ e. by.0 (sym (F0-bit s w k) ∙ e), λ a. F0-bit s w k ∙ by.1 a)
+  f0_iff k = let by = held_by (λ (c : Constraint). c.out_plain) k in (λ e. by.0 (sym (f0_bit s w k) ∙ e), λ a. f0_bit s w k ∙ by.1 a)
 
   pub f1_iff : (k : ℕ) → (bit k (F1 s w) ≡ true) ↔ HeldOn s w k
-  f1_iff k = let by = held_by (λ (c : Constraint). c.out_negated) k in (λ e. by.0 (sym (F1-bit s w k) ∙ e), λ a. F1-bit s w k ∙ by.1 a)
+  f1_iff k = let by = held_by (λ (c : Constraint). c.out_negated) k in (λ e. by.0 (sym (f1_bit s w k) ∙ e), λ a. f1_bit s w k ∙ by.1 a)
 
   -- an output is held, or it is not
   pub held_iff : (k : ℕ) → (held s w k ≡ true) ↔ Held s w k

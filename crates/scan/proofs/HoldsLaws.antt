@@ -32,14 +32,14 @@ held s w k = bit k (F0 s w) || bit k (F1 s w)
 
 module _ (s : Set) (w k : ℕ) where
   -- F0 of output k: the read literals of some simple constraint with that output plain are all true
-  pub F0-bit : bit k (F0 s w) ≡ some s.m (λ i. holding s w i && bit k (constraint s i).out_plain)
+  pub f0_bit : bit k (F0 s w) ≡ some s.m (λ i. holding s w i && bit k (constraint s i).out_plain)
   unfolding F0 to_zero
-  F0-bit = bit_gather k s.m (to_zero s w) ∙ some_cong s.m _ _ (λ i h. bit_cond (holding s w i) k (constraint s i).out_plain)
+  f0_bit = bit_gather k s.m (to_zero s w) ∙ some_cong s.m _ _ (λ i h. bit_cond (holding s w i) k (constraint s i).out_plain)
 
   -- F1 of output k: likewise with it negated
-  pub F1-bit : bit k (F1 s w) ≡ some s.m (λ i. holding s w i && bit k (constraint s i).out_negated)
+  pub f1_bit : bit k (F1 s w) ≡ some s.m (λ i. holding s w i && bit k (constraint s i).out_negated)
   unfolding F1 to_one
-  F1-bit = bit_gather k s.m (to_one s w) ∙ some_cong s.m _ _ (λ i h. bit_cond (holding s w i) k (constraint s i).out_negated)
+  f1_bit = bit_gather k s.m (to_one s w) ∙ some_cong s.m _ _ (λ i h. bit_cond (holding s w i) k (constraint s i).out_negated)
 
   -- the start vector is (not F0 and request) or F1
   pub start_bit : (request : ℕ) → bit k (start_vector s w request) ≡ (bit k request && not (bit k (F0 s w))) || bit k (F1 s w)
@@ -107,17 +107,17 @@ module _ (s : Set) (w : ℕ) where
   unheld_lt = without_lt s.n (low s.n) (bit_or (F0 s w) (F1 s w)) (ones_lt s.n)
 
   module _ (ok : well_formed s ≡ true) where
-    pub F0-lt : F0 s w < 2 ^ s.n
+    pub f0_lt : F0 s w < 2 ^ s.n
     unfolding F0 to_zero
-    F0-lt = gather_lt s.n s.m (to_zero s w) (λ i h. cond_lt (holding s w i) _ s.n (masks s ok i h).out_plain)
+    f0_lt = gather_lt s.n s.m (to_zero s w) (λ i h. cond_lt (holding s w i) _ s.n (masks s ok i h).out_plain)
 
-    pub F1-lt : F1 s w < 2 ^ s.n
+    pub f1_lt : F1 s w < 2 ^ s.n
     unfolding F1 to_one
-    F1-lt = gather_lt s.n s.m (to_one s w) (λ i h. cond_lt (holding s w i) _ s.n (masks s ok i h).out_negated)
+    f1_lt = gather_lt s.n s.m (to_one s w) (λ i h. cond_lt (holding s w i) _ s.n (masks s ok i h).out_negated)
 
     pub start_lt : (request : ℕ) → request < 2 ^ s.n → start_vector s w request < 2 ^ s.n
     unfolding start_vector start_from
-    start_lt g h = or_lt s.n (without g (F0 s w)) (F1 s w) (without_lt s.n g (F0 s w) h) F1-lt
+    start_lt g h = or_lt s.n (without g (F0 s w)) (F1 s w) (without_lt s.n g (F0 s w) h) f1_lt
 
     -- ---- f is the number of outputs below n that are not held
 

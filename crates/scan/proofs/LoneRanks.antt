@@ -69,17 +69,17 @@ module _ (s t : Set) (a : AlikeButLone s t) (w : ℕ) where
   unfolding holding
   holding_alike i = ap₂ ◌&&◌ (simple_alike _ _ (a.constraints i)) (reads_alike _ _ (a.constraints i) w)
 
-  pub F0-alike : F0 s w ≡ F0 t w
+  pub f0_alike : F0 s w ≡ F0 t w
   unfolding F0 to_zero
-  F0-alike = masks_alike to_zero (λ i. ap₂ (λ (b : Bool) (x : ℕ). cond b x 0) (holding_alike i) (a.constraints i).out_plain)
+  f0_alike = masks_alike to_zero (λ i. ap₂ (λ (b : Bool) (x : ℕ). cond b x 0) (holding_alike i) (a.constraints i).out_plain)
 
-  pub F1-alike : F1 s w ≡ F1 t w
+  pub f1_alike : F1 s w ≡ F1 t w
   unfolding F1 to_one
-  F1-alike = masks_alike to_one (λ i. ap₂ (λ (b : Bool) (x : ℕ). cond b x 0) (holding_alike i) (a.constraints i).out_negated)
+  f1_alike = masks_alike to_one (λ i. ap₂ (λ (b : Bool) (x : ℕ). cond b x 0) (holding_alike i) (a.constraints i).out_negated)
 
   pub unheld_alike : unheld s w ≡ unheld t w
   unfolding unheld
-  unheld_alike = λ i. unheld_by (a.n_same i) (F0-alike i) (F1-alike i)
+  unheld_alike = λ i. unheld_by (a.n_same i) (f0_alike i) (f1_alike i)
 
   pub safe_alike : (v : ℕ) → safe s w v ≡ safe t w v
   unfolding safe true_at

@@ -18,7 +18,7 @@ use Rattle.scan.specs.Constraint.{reads_true, outs_true, is_true, simple, combin
 use Rattle.scan.specs.Holds.{holding, F0, F1, start_vector}
 use Rattle.scan.specs.Pass.{fires}
 use Rattle.scan.proofs.ShapeLaws.{counts, masks}
-use Rattle.scan.proofs.HoldsLaws.{F0-bit, F1-bit, start_bit, F0-lt, F1-lt, start_lt}
+use Rattle.scan.proofs.HoldsLaws.{f0_bit, f1_bit, start_bit, f0_lt, f1_lt, start_lt}
 use Rattle.scan.proofs.ConstraintLaws.{simple_or_combined, lone_plain, lone_negated}
 
 module _ (s : Set) (w v : ℕ) (ok : well_formed s ≡ true) where
@@ -38,18 +38,18 @@ module _ (s : Set) (w v : ℕ) (ok : well_formed s ≡ true) where
     unfolding holding
     is_simple i e = (and_true (simple (constraint s i)) (reads_true (constraint s i) w) e).0
 
-    pub F0-clear : (k : ℕ) → bit k (F0 s w) ≡ true → bit k v ≡ false
-    F0-clear k e =
-        let i = some_at s.m _ (sym (F0-bit s w k) ∙ e) in
+    pub f0_clear : (k : ℕ) → bit k (F0 s w) ≡ true → bit k v ≡ false
+    f0_clear k e =
+        let i = some_at s.m _ (sym (f0_bit s w k) ∙ e) in
         let c = constraint s i.0 in
         let b = and_true (holding s w i.0) (bit k c.out_plain) i.2 in
         by_test (bit k v)
         (λ q. absurd (no_literal i.0 i.1 b.0 (lone_plain s.r s.n c (counts s ok).n_le (masks s ok i.0 i.1) (is_simple i.0 b.0) v k b.1 q)))
         (λ q. q)
 
-    pub F1-set : (k : ℕ) → bit k (F1 s w) ≡ true → bit k v ≡ true
-    F1-set k e =
-        let i = some_at s.m _ (sym (F1-bit s w k) ∙ e) in
+    pub f1_set : (k : ℕ) → bit k (F1 s w) ≡ true → bit k v ≡ true
+    f1_set k e =
+        let i = some_at s.m _ (sym (f1_bit s w k) ∙ e) in
         let c = constraint s i.0 in
         let b = and_true (holding s w i.0) (bit k c.out_negated) i.2 in
         by_test (bit k v)
@@ -66,18 +66,18 @@ module _ (s : Set) (w v : ℕ) (ok : well_formed s ≡ true) where
     pub start_safe : v < 2 ^ s.n → start_vector s w v ≡ v
     start_safe h =
         same_bits s.n (start_vector s w v) v (start_lt s w ok v h) h
-        (λ k l. start_bit s w k v ∙ merge (bit k v) (bit k (F0 s w)) (bit k (F1 s w)) (F0-clear k) (F1-set k))
+        (λ k l. start_bit s w k v ∙ merge (bit k v) (bit k (F0 s w)) (bit k (F1 s w)) (f0_clear k) (f1_set k))
 
     safe_held : meets (F1 s w) (F0 s w) v && not (some s.m (fires s w v)) ≡ true
     unfolding fires
     safe_held =
         ap₂ (λ (a b : Bool). a && not b)
-        (bits_meet s.n (F1 s w) (F0 s w) v (F1-lt s w ok) (F0-lt s w ok) F1-set F0-clear)
+        (bits_meet s.n (F1 s w) (F0 s w) v (f1_lt s w ok) (f0_lt s w ok) f1_set f0_clear)
         (some_false s.m (fires s w v) (λ i h. and_false (combined (constraint s i)) (is_true (constraint s i) w v) (none_true i h)))
 
   -- where an output is forced both ways no vector is safe
   pub clash_unsafe : (k : ℕ) → bit k (F0 s w) ≡ true → bit k (F1 s w) ≡ true → safe s w v ≡ false
-  clash_unsafe k off on = by_test (safe s w v) (λ good. clash (F1-set good k on) (F0-clear good k off)) (λ e. e)
+  clash_unsafe k off on = by_test (safe s w v) (λ good. clash (f1_set good k on) (f0_clear good k off)) (λ e. e)
 
   -- ---- and with every held output as it is held, and no combined constraint true, no constraint is
 
@@ -96,10 +96,10 @@ module _ (s : Set) (w v : ℕ) (ok : well_formed s ≡ true) where
         by_test (bit b.0 (constraint s i).out_plain)
         (λ p.
         clash (meet_plain (constraint s i).out_plain (constraint s i).out_negated v halves.1 b.0 p)
-        (meet_negated (F1 s w) (F0 s w) v held b.0 (F0-bit s w b.0 ∙ some_true s.m _ i h (ap₂ ◌&&◌ hold p))))
+        (meet_negated (F1 s w) (F0 s w) v held b.0 (f0_bit s w b.0 ∙ some_true s.m _ i h (ap₂ ◌&&◌ hold p))))
         (λ p.
         let q = or_true (bit b.0 (constraint s i).out_plain) (bit b.0 (constraint s i).out_negated) (sym (bit_of_or b.0 _ _) ∙ b.2) p in
-        clash (meet_plain (F1 s w) (F0 s w) v held b.0 (F1-bit s w b.0 ∙ some_true s.m _ i h (ap₂ ◌&&◌ hold q)))
+        clash (meet_plain (F1 s w) (F0 s w) v held b.0 (f1_bit s w b.0 ∙ some_true s.m _ i h (ap₂ ◌&&◌ hold q)))
         (meet_negated (constraint s i).out_plain (constraint s i).out_negated v halves.1 b.0 q))
 
     never_true : ⊥

@@ -15,9 +15,9 @@ use Rattle.scan.specs.Constraint.{safe}
 use Rattle.scan.specs.Holds.{F0, F1, unheld, start_vector}
 use Rattle.scan.specs.Pass.{pass}
 use Rattle.scan.specs.Walk.{after, Reaches, FirstSafe, passes_due, vector_due}
-use Rattle.scan.proofs.HoldsLaws.{start_bit, unheld_bit, start_lt, F0-lt, F1-lt}
+use Rattle.scan.proofs.HoldsLaws.{start_bit, unheld_bit, start_lt, f0_lt, f1_lt}
 use Rattle.scan.proofs.PassLaws.{after_lt, after_agrees}
-use Rattle.scan.proofs.SafeLaws.{F0-clear, F1-set}
+use Rattle.scan.proofs.SafeLaws.{f0_clear, f1_set}
 use Rattle.scan.proofs.WalkLaws.{walk_due, due_is, first_soon}
 
 merge : (v f0 f1 : Bool) → (f0 ≡ true → v ≡ false) → (f1 ≡ true → v ≡ true) → (v && not f0) || f1 ≡ v
@@ -35,10 +35,10 @@ module _ (s : Set) (ok : well_formed s ≡ true) (w request : ℕ) (fits : reque
   agrees j k e = sym (after_agrees s w request j k e) ∙ after_agrees s w request (passes_due s w request) k e
 
   off_held : (k : ℕ) → bit k (F0 s w) ≡ true → bit k (unheld s w) ≡ false
-  off_held k e = unheld_bit s w k (bit_below s.n k (F0 s w) (F0-lt s w ok) e) ∙ ap not (or_left (bit k (F0 s w)) (bit k (F1 s w)) e)
+  off_held k e = unheld_bit s w k (bit_below s.n k (F0 s w) (f0_lt s w ok) e) ∙ ap not (or_left (bit k (F0 s w)) (bit k (F1 s w)) e)
 
   on_held : (k : ℕ) → bit k (F1 s w) ≡ true → bit k (unheld s w) ≡ false
-  on_held k e = unheld_bit s w k (bit_below s.n k (F1 s w) (F1-lt s w ok) e) ∙ ap not (or_right (bit k (F0 s w)) (bit k (F1 s w)) e)
+  on_held k e = unheld_bit s w k (bit_below s.n k (F1 s w) (f1_lt s w ok) e) ∙ ap not (or_right (bit k (F0 s w)) (bit k (F1 s w)) e)
 
   -- a vector of the walk is its own start vector
   pub own_start : (j : ℕ) → start_vector s w (after s w request j) ≡ after s w request j
@@ -48,8 +48,8 @@ module _ (s : Set) (ok : well_formed s ≡ true) (w request : ℕ) (fits : reque
       let h = after_lt s w ok request fits j in
       same_bits s.n (start_vector s w v) v (start_lt s w ok v h) h
       (λ k l. start_bit s w k v ∙ merge (bit k v) (bit k (F0 s w)) (bit k (F1 s w))
-      (λ e. agrees j k (off_held k e) ∙ F0-clear s w u ok due.here k e)
-      (λ e. agrees j k (on_held k e) ∙ F1-set s w u ok due.here k e))
+      (λ e. agrees j k (off_held k e) ∙ f0_clear s w u ok due.here k e)
+      (λ e. agrees j k (on_held k e) ∙ f1_set s w u ok due.here k e))
 
   after_on : (j i : ℕ) → after s w (after s w request j) i ≡ after s w request (j + i)
   unfolding after

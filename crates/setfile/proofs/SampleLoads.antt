@@ -17,12 +17,12 @@ use Rattle.writer.specs.Write.{read_literal, output_literal, literals_by, fields
 use Rattle.setfile.specs.SampleFile.{file_p}
 
 -- The file loads to P.
-pub P-loads : load_of file_p ≡ record { answer = Loaded; set = P }
+pub p_loads : load_of file_p ≡ record { answer = Loaded; set = P }
 unfolding all first_from first zero_set name_byte all_name_bytes spelling same_name read_has_name first_read output_named first_output is_used
     count_tests raw_of header_of names_high narrows wides with_literal literals_from counts_at name_field kind_of read_field read_of read_at reads_from output_of output_at outputs_from rest_at constraint_at constraints_from load_from load_of
-P-loads = refl
+p_loads = refl
 
 -- P's file is the file.
-pub P-written : write_of P ≡ file_p
+pub p_written : write_of P ≡ file_p
 unfolding zero_set odd bit first_from first name_length name_bytes read_literal output_literal names_high joined literals_by fields_of rest_field write_of
-P-written = refl
+p_written = refl

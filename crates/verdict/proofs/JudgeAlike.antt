@@ -12,7 +12,7 @@ use Rattle.scan.specs.Shape.{well_formed}
 use Rattle.scan.specs.Constraint.{safe, HasSafe}
 use Rattle.scan.specs.Holds.{F0, F1, LowestBoth, NoneBoth, start_from, start_vector}
 use Rattle.scan.specs.Walk.{after, Reaches}
-use Rattle.scan.proofs.LoneRanks.{AlikeButLone, F0-alike, F1-alike, safe_alike, pass_alike}
+use Rattle.scan.proofs.LoneRanks.{AlikeButLone, f0_alike, f1_alike, safe_alike, pass_alike}
 use Rattle.verdict.specs.declared.verdict.Verdict.{Verdict}
 use Rattle.verdict.specs.declared.verdict.Verdict.TheVariants.{Accepted, BadSet, ShortScratch, NoVector, Clash, NoEnd}
 use Rattle.verdict.specs.Judge.{scratch_bytes, judge_of}
@@ -24,7 +24,7 @@ module _ (s t : Set) (a : AlikeButLone s t) where
   -- the vectors of a walk, and which of them are safe
   after_alike : (w request k : ℕ) → after s w request k ≡ after t w request k
   unfolding after start_vector
-  after_alike w request k = λ i. iterate (fun_ext (pass_alike s t a w) i) k (start_from (F0-alike s t a w i) (F1-alike s t a w i) request)
+  after_alike w request k = λ i. iterate (fun_ext (pass_alike s t a w) i) k (start_from (f0_alike s t a w i) (f1_alike s t a w i) request)
 
   safe_after : (w request k : ℕ) → safe s w (after s w request k) ≡ safe t w (after t w request k)
   safe_after w request k = safe_alike s t a w (after s w request k) ∙ ap (safe t w) (after_alike w request k)
@@ -57,9 +57,9 @@ module _ (s t : Set) (a : AlikeButLone s t) where
 
   means_there : (v : Verdict) → Means s v → Means t v
   means_there Accepted m = λ w h. good_there w (m w (subst (λ (r : ℕ). w < 2 ^ r) (sym a.r_same) h))
-  means_there (NoVector w) m = (without_there w m.0, subst (λ (f : ℕ). NoneBoth f (F1 t w)) (F0-alike s t a w) (subst (NoneBoth (F0 s w)) (F1-alike s t a w) m.1))
+  means_there (NoVector w) m = (without_there w m.0, subst (λ (f : ℕ). NoneBoth f (F1 t w)) (f0_alike s t a w) (subst (NoneBoth (F0 s w)) (f1_alike s t a w) m.1))
   means_there (Clash w k) m =
-      (without_there w m.0, subst (λ (f : ℕ). LowestBoth f (F1 t w) k) (F0-alike s t a w) (subst (λ (f : ℕ). LowestBoth (F0 s w) f k) (F1-alike s t a w) m.1))
+      (without_there w m.0, subst (λ (f : ℕ). LowestBoth f (F1 t w) k) (f0_alike s t a w) (subst (λ (f : ℕ). LowestBoth (F0 s w) f k) (f1_alike s t a w) m.1))
   means_there (NoEnd w g) m = record {
     within = subst (λ (r : ℕ). w < 2 ^ r) a.r_same m.within;
     vectors = λ u h. safe_there u (m.vectors u (subst (λ (r : ℕ). u < 2 ^ r) (sym a.r_same) h));

@@ -29,13 +29,13 @@ refuses x st a e = λ i. record { answer = e.0 i; state = e.1 i }
 state_ok_law : (c : Else-not-is_state_ok) → state_ok c.args.state ≡ true
 state_ok_law c = sym c.is_state_ok.ensures ∙ not-false c.is_state_ok.result c.if-not-is_state_ok.false-raw
 
-set-formed : (c : Else-not-is_state_ok) → well_formed c.args.state.set ≡ true
-set-formed c = state_formed c.args.state (state_ok_law c)
+set_formed : (c : Else-not-is_state_ok) → well_formed c.args.state.set ≡ true
+set_formed c = state_formed c.args.state (state_ok_law c)
 
 -- the second test looks at the past points that the loop over the read points found
-sensor-test : (c : After-is_sensor_word) → let a = c.args in c.is_sensor_word.result ≡ sensor_ok a.state.set a.sensor
+sensor_test : (c : After-is_sensor_word) → let a = c.args in c.is_sensor_word.result ≡ sensor_ok a.state.set a.sensor
 unfolding sensor_ok
-sensor-test c =
+sensor_test c =
     let p = c in
     let a = p.args in
     let s = a.state.set in
@@ -43,12 +43,12 @@ sensor-test c =
     let test : c.is_sensor_word.result ≡ (ltb a.sensor (2 ^ s.r) && eqb (bit_and a.sensor p.read_points-read.result.past) 0) = c.is_sensor_word.ensures in
     test ∙ ap (λ (x : ℕ). ltb a.sensor (2 ^ s.r) && eqb (bit_and a.sensor x) 0) past
 
-sensor-ok : (c : Else-not-is_sensor_word) → let a = c.args in sensor_ok a.state.set a.sensor ≡ true
-sensor-ok c = sym (sensor-test c.before) ∙ not-false c.is_sensor_word.result c.if-not-is_sensor_word.false-raw
+sensor_ok_fact : (c : Else-not-is_sensor_word) → let a = c.args in sensor_ok a.state.set a.sensor ≡ true
+sensor_ok_fact c = sym (sensor_test c.before) ∙ not-false c.is_sensor_word.result c.if-not-is_sensor_word.false-raw
 
-request-ok : (c : Else-not-fits16) → let a = c.args in request_ok a.state.set a.request ≡ true
+request_ok_fact : (c : Else-not-fits16) → let a = c.args in request_ok a.state.set a.request ≡ true
 unfolding request_ok
-request-ok c = sym c.fits16.ensures ∙ not-false c.fits16.result c.if-not-fits16.false-raw
+request_ok_fact c = sym c.fits16.ensures ∙ not-false c.fits16.result c.if-not-fits16.false-raw
 
 -- behind all three, at a walk that ends at x
 walked : (c : After-walk_from) → let a = c.args in (x : Walk)
@@ -66,7 +66,7 @@ walked c x e =
     read ∙ ap (λ (y : ℕ). read_word a.state.set a.state.past_output y a.sensor) before in
     let ends : c.walk_from.result ≡ walk a.state.set p.read_points-read.result.word a.request = c.walk_from.ensures in
     ap (sending a.state a.sensor) (sym e ∙ ends ∙ ap (λ (w : ℕ). walk a.state.set w a.request) all)
-    ∙ sym (scan_walks a.state a.sensor a.request (state_ok_law c.before.before.before.before.before.before.before.before.before) (sensor-ok c.before.before.before.before) (request-ok c.before.before))
+    ∙ sym (scan_walks a.state a.sensor a.request (state_ok_law c.before.before.before.before.before.before.before.before.before) (sensor_ok_fact c.before.before.before.before) (request_ok_fact c.before.before))
 
 pub returns-then-not-is_state_ok : goal.returns-then-not-is_state_ok
 returns-then-not-is_state_ok c =
@@ -78,7 +78,7 @@ returns-then-not-is_state_ok c =
 pub read_points-read-requires : goal.read_points-read-requires
 read_points-read-requires c =
     let e1 = c in
-    (counts e1.args.state.set (set-formed (goal.at.read_points-read-requires c).Else-not-is_state_ok)).r_le
+    (counts e1.args.state.set (set_formed (goal.at.read_points-read-requires c).Else-not-is_state_ok)).r_le
 
 pub returns-then-not-is_sensor_word : goal.returns-then-not-is_sensor_word
 returns-then-not-is_sensor_word c =
@@ -87,7 +87,7 @@ returns-then-not-is_sensor_word c =
     let a = e1.args in
     refuses c.refuse-then-not-is_sensor_word.result a.state BadSensor c.refuse-then-not-is_sensor_word.ensures
     ∙ sym (scan_bad_sensor a.state a.sensor a.request (state_ok_law (goal.at.returns-then-not-is_sensor_word c).Else-not-is_state_ok)
-    (sym (sensor-test (goal.at.returns-then-not-is_sensor_word c).After-is_sensor_word) ∙ not-true b.is_sensor_word.result c.if-not-is_sensor_word.true-raw))
+    (sym (sensor_test (goal.at.returns-then-not-is_sensor_word c).After-is_sensor_word) ∙ not-true b.is_sensor_word.result c.if-not-is_sensor_word.true-raw))
 
 pub returns-then-not-fits16 : goal.returns-then-not-fits16
 unfolding request_ok
@@ -97,11 +97,11 @@ returns-then-not-fits16 c =
     let e1 = e2 in
     let a = e1.args in
     refuses c.refuse-then-not-fits16.result a.state BadRequest c.refuse-then-not-fits16.ensures
-    ∙ sym (scan_bad_request a.state a.sensor a.request (state_ok_law (goal.at.returns-then-not-fits16 c).Else-not-is_state_ok) (sensor-ok (goal.at.returns-then-not-fits16 c).Else-not-is_sensor_word)
+    ∙ sym (scan_bad_request a.state a.sensor a.request (state_ok_law (goal.at.returns-then-not-fits16 c).Else-not-is_state_ok) (sensor_ok_fact (goal.at.returns-then-not-fits16 c).Else-not-is_sensor_word)
     (sym f.fits16.ensures ∙ not-true f.fits16.result c.if-not-fits16.true-raw))
 
 pub walk_from-requires : goal.walk_from-requires
-walk_from-requires c = set-formed (goal.at.walk_from-requires c).Else-not-is_state_ok
+walk_from-requires c = set_formed (goal.at.walk_from-requires c).Else-not-is_state_ok
 
 pub returns-in-Safe : goal.returns-in-Safe
 returns-in-Safe c = walked (goal.at.returns-in-Safe c).After-walk_from _ c.in-Safe.is

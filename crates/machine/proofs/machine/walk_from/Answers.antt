@@ -23,19 +23,19 @@ use Rattle.machine.proofs.machine.walk_from.Goals as goal
 
 -- the walk over a table, by what its holds are
 module _ (t : Table) (request : ℕ) where
-  by-holds : (h : Holds) → t.holds ≡ h → walk_held (safe_held h t.entries.plain t.entries.named t.entries.count) (pass_in t) t.limit request h ≡ walk_in t request
-  by-holds h e = sym (ap (λ (x : Holds). walk_held (safe_held x t.entries.plain t.entries.named t.entries.count) (pass_in t) t.limit request x) e)
+  by_holds : (h : Holds) → t.holds ≡ h → walk_held (safe_held h t.entries.plain t.entries.named t.entries.count) (pass_in t) t.limit request h ≡ walk_in t request
+  by_holds h e = sym (ap (λ (x : Holds). walk_held (safe_held x t.entries.plain t.entries.named t.entries.count) (pass_in t) t.limit request x) e)
 
-  by-forced : (f0 f1 from : ℕ) (r : Walk) → t.holds ≡ Forced f0 f1 → from ≡ start_from f0 f1 request
+  by_forced : (f0 f1 from : ℕ) (r : Walk) → t.holds ≡ Forced f0 f1 → from ≡ start_from f0 f1 request
       → r ≡ walk_by (safe_over f0 f1 t.entries.plain t.entries.named t.entries.count) (pass_in t) t.limit from 0 → r ≡ walk_in t request
-  by-forced f0 f1 from r eh ef er =
-      er ∙ ap (λ (v : ℕ). walk_by (safe_over f0 f1 t.entries.plain t.entries.named t.entries.count) (pass_in t) t.limit v 0) ef ∙ by-holds (Forced f0 f1) eh
+  by_forced f0 f1 from r eh ef er =
+      er ∙ ap (λ (v : ℕ). walk_by (safe_over f0 f1 t.entries.plain t.entries.named t.entries.count) (pass_in t) t.limit v 0) ef ∙ by_holds (Forced f0 f1) eh
 
 -- what was built is the word's table, and the walk over it is the set's
 module _ (s : Set) (ok : well_formed s ≡ true) (w request : ℕ) (l : Columns) (el : l ≡ columns_of s) (active : ℕ) (ea : active ≡ active_by l.read_plain l.read_named l.m w)
     (t : Table) (et : t ≡ table_by s (holds_by l.out_plain l.out_negated l.m (bit_and active l.simple)) (without active l.simple)) where
-  walk-told : (r : Walk) → r ≡ walk_in t request → r ≡ walk s w request
-  walk-told r e =
+  walk_told : (r : Walk) → r ≡ walk_in t request → r ≡ walk s w request
+  walk_told r e =
       e
       ∙ ap (λ (x : Table). walk_in x request) (made_table s l el active t et ∙ ap (table_of s) (made_active s ok w l el active ea))
       ∙ table_walk s w ok request
@@ -44,12 +44,12 @@ pub returns-in-Forced : goal.returns-in-Forced
 returns-in-Forced c =
     let a = c.args in
     let l = c.columns_of-by in
-    walk-told a.s.now c.requires a.w a.request l.result l.ensures c.active_at.result c.active_at.ensures c.table-t.result c.table-t.ensures c.walk.result
-    (by-forced c.table-t.result a.request c.in-Forced.f0 c.in-Forced.f1 c.start_vector.result c.walk.result c.in-Forced.is c.start_vector.ensures c.walk.ensures)
+    walk_told a.s.now c.requires a.w a.request l.result l.ensures c.active_at.result c.active_at.ensures c.table-t.result c.table-t.ensures c.walk.result
+    (by_forced c.table-t.result a.request c.in-Forced.f0 c.in-Forced.f1 c.start_vector.result c.walk.result c.in-Forced.is c.start_vector.ensures c.walk.ensures)
 
 pub returns-in-Clash : goal.returns-in-Clash
 returns-in-Clash c =
     let a = c.args in
     let l = c.columns_of-by in
-    walk-told a.s.now c.requires a.w a.request l.result l.ensures c.active_at.result c.active_at.ensures c.table-t.result c.table-t.ensures Never
-    (by-holds c.table-t.result a.request (Clash c.in-Clash.output) c.in-Clash.is)
+    walk_told a.s.now c.requires a.w a.request l.result l.ensures c.active_at.result c.active_at.ensures c.table-t.result c.table-t.ensures Never
+    (by_holds c.table-t.result a.request (Clash c.in-Clash.output) c.in-Clash.is)

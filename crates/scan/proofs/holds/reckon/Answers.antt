@@ -14,12 +14,12 @@ use Rattle.scan.proofs.HoldsLaws.{reckoned_clash, reckoned_forced, by_reckoned}
 use Rattle.scan.proofs.holds.reckon.Goals as goal
 
 module _ (f0 f1 : ℕ) where
-  both-bit : (k : ℕ) → both_ways f0 f1 k ≡ bit k (bit_and f0 f1)
+  both_bit : (k : ℕ) → both_ways f0 f1 k ≡ bit k (bit_and f0 f1)
   unfolding both_ways
-  both-bit k = sym (bit_of_and k f0 f1)
+  both_bit k = sym (bit_of_and k f0 f1)
 
   forced : bit_and f0 f1 ≡ 0 → Forced f0 f1 ≡ reckoned f0 f1
-  forced e = sym (reckoned_forced f0 f1 (λ k h. both-bit k ∙ ap (bit k) e ∙ bit_zero k))
+  forced e = sym (reckoned_forced f0 f1 (λ k h. both_bit k ∙ ap (bit k) e ∙ bit_zero k))
 
   clashes : bit_and f0 f1 < 2 ^ 16 → (bit_and f0 f1 ≡ 0 → ⊥) → (k : ℕ) → k ≡ first 16 (both_ways f0 f1) → Clash k ≡ reckoned f0 f1
   unfolding both_ways
@@ -28,7 +28,7 @@ module _ (f0 f1 : ℕ) where
       (λ j l.
       let is = first_is 16 j (both_ways f0 f1) l.fits (ap₂ ◌&&◌ l.off l.on) l.before in
       ap Clash (e ∙ is) ∙ sym (reckoned_clash f0 f1 j l))
-      (λ none. absurd (some (no_bits 16 (bit_and f0 f1) fits (λ j h. sym (both-bit j) ∙ none j h))))
+      (λ none. absurd (some (no_bits 16 (bit_and f0 f1) fits (λ j h. sym (both_bit j) ∙ none j h))))
 
 pub returns-then-f0-f1-eq0 : goal.returns-then-f0-f1-eq0
 returns-then-f0-f1-eq0 c = let a = c.args in forced a.f0 a.f1 c.if-f0-f1-eq0.true

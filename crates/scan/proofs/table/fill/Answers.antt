@@ -48,10 +48,10 @@ module _ (s : Set) (h : Holds) (entered i count : ℕ) (plain named flip : List 
       ∙ ap (λ (t : Table). with_count (filled_up t.entries.count) t) (inv ∙ ap (table_upto s h entered) e)
 
 -- outputs that are not held are among the first n
-unheld-small : (n : ℕ) (h : Holds) → unheld_from n h < 2 ^ n
+unheld_small : (n : ℕ) (h : Holds) → unheld_from n h < 2 ^ n
 unfolding unheld_by
-unheld-small n (Forced f0 f1) = without_lt n (low n) (bit_or f0 f1) (ones_lt n)
-unheld-small n (Clash k) = pow_pos n
+unheld_small n (Forced f0 f1) = without_lt n (low n) (bit_or f0 f1) (ones_lt n)
+unheld_small n (Clash k) = pow_pos n
 
 pub loop-i-init : goal.loop-i-init
 loop-i-init c =
@@ -67,7 +67,7 @@ yielding_within-requires c =
     let k = u.min-n.result in
     let own = outs (constraint a.s.now t.loop-i.i) in (
       omega (arith, u.min-n.ensures),
-      lt_of_le_of_lt (and_le_r own u.unheld_of-unheld.result) (rw u.unheld_of-unheld.ensures (unheld-small k a.h)),
+      lt_of_le_of_lt (and_le_r own u.unheld_of-unheld.result) (rw u.unheld_of-unheld.ensures (unheld_small k a.h)),
     )
 
 pub loop-i-preserved : goal.loop-i-preserved

@@ -12,9 +12,9 @@ accepted : (s : Set) (v : Verdict) → v ≡ Accepted → fresh_state s ≡ star
 accepted s v e = ap (start_state s) (sym e)
 
 -- the zero set's rest word is 0
-zero-fresh : fresh_state zero_set ≡ zero_state
+zero_fresh : fresh_state zero_set ≡ zero_state
 unfolding zero_set
-zero-fresh = refl
+zero_fresh = refl
 
 -- any verdict but acceptance leads to the zero state
 rejected : (s : Set) (v : Verdict) → (v ≡ Accepted → ⊥) → zero_state ≡ start_state s v
@@ -34,4 +34,4 @@ pub returns : goal.returns
 returns c =
     let m = c in
     let a = m.args in
-    c.fresh-2.ensures ∙ ap fresh_state c.zero_set.ensures ∙ zero-fresh ∙ rejected a.set a.verdict c.in_default.not-Accepted
+    c.fresh-2.ensures ∙ ap fresh_state c.zero_set.ensures ∙ zero_fresh ∙ rejected a.set a.verdict c.in_default.not-Accepted

@@ -18,11 +18,11 @@ module _ (v : After-eight) where
   abbrev held : ℕ
   held = bit_and v.low_held.result v.first_vectors.result
 
-  eight-told : v.eight.result ≡ eight_of v.args.entries.now.plain v.args.entries.now.named v.args.entries.now.count
-  eight-told = v.eight.ensures
+  eight_told : v.eight.result ≡ eight_of v.args.entries.now.plain v.args.entries.now.named v.args.entries.now.count
+  eight_told = v.eight.ensures
 
-  held-told : held ≡ bit_and (low_held v.args.f0 v.args.f1) (first_vectors v.args.n)
-  held-told = ap₂ bit_and v.low_held.ensures v.first_vectors.ensures
+  held_told : held ≡ bit_and (low_held v.args.f0 v.args.f1) (first_vectors v.args.n)
+  held_told = ap₂ bit_and v.low_held.ensures v.first_vectors.ensures
 
   abbrev byte : ℕ → ℕ
   byte =
@@ -32,7 +32,7 @@ pub mark_bytes-requires : goal.mark_bytes-requires
 mark_bytes-requires c =
     let v = c in
     let s = v in (
-      omega (arith, held-told (goal.at.mark_bytes-requires c).After-eight, held_le s.args.f0 s.args.f1 s.args.n),
+      omega (arith, held_told (goal.at.mark_bytes-requires c).After-eight, held_le s.args.f0 s.args.f1 s.args.n),
       omega (arith, s.requires.1, scratch_mono s.args.n most_outputs s.requires.0, scratch_eighth most_outputs (omega arith)),
     )
 
@@ -43,7 +43,7 @@ returns c =
     let s = v in
     let any : m.mark_bytes.result ≡ some (length s.args.marks.now) (has_mark (byte (goal.at.returns c).After-eight)) = m.mark_bytes.ensures.value in record {
       value = any ∙ ap (λ (k : ℕ). some k (has_mark (byte (goal.at.returns c).After-eight))) s.requires.1
-          ∙ some_safe s.args.n s.args.entries.now.plain s.args.entries.now.named s.args.entries.now.count _ (eight-told (goal.at.returns c).After-eight) s.args.f0 s.args.f1 (held (goal.at.returns c).After-eight) (held-told (goal.at.returns c).After-eight);
+          ∙ some_safe s.args.n s.args.entries.now.plain s.args.entries.now.named s.args.entries.now.count _ (eight_told (goal.at.returns c).After-eight) s.args.f0 s.args.f1 (held (goal.at.returns c).After-eight) (held_told (goal.at.returns c).After-eight);
       marks_after = m.mark_bytes.ensures.marks_after ∙ ap (λ (k : ℕ). listed k (byte (goal.at.returns c).After-eight)) s.requires.1
-          ∙ bytes_are s.args.n s.args.entries.now.plain s.args.entries.now.named s.args.entries.now.count _ (eight-told (goal.at.returns c).After-eight) s.args.f0 s.args.f1 (held (goal.at.returns c).After-eight) (held-told (goal.at.returns c).After-eight);
+          ∙ bytes_are s.args.n s.args.entries.now.plain s.args.entries.now.named s.args.entries.now.count _ (eight_told (goal.at.returns c).After-eight) s.args.f0 s.args.f1 (held (goal.at.returns c).After-eight) (held_told (goal.at.returns c).After-eight);
     }

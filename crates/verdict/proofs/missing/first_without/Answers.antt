@@ -32,30 +32,30 @@ few c = (counts c.args.set.now c.requires.0).r_le
 
 -- looking through the vectors of a word by its entries tells whether it has a safe one
 module _ (s : Set) (formed : well_formed s ≡ true) (w : ℕ) (l : Columns) (el : l ≡ columns_of s) (active : ℕ) (ea : active ≡ active_of s w) where
-  lacks-told : (e : Entries) → e ≡ entries_by l.out_plain l.out_negated l.m active → (any : Bool) → any ≡ some (2 ^ s.n) (safe_over 0 0 e.plain e.named e.count)
+  lacks_told : (e : Entries) → e ≡ entries_by l.out_plain l.out_negated l.m active → (any : Bool) → any ≡ some (2 ^ s.n) (safe_over 0 0 e.plain e.named e.count)
       → not any ≡ lacks s w
   unfolding lacks has_vector
-  lacks-told e ee any em = ap not (em ∙ ap (some (2 ^ s.n)) (fun_ext (made_entries s formed w l el active ea e ee)))
+  lacks_told e ee any em = ap not (em ∙ ap (some (2 ^ s.n)) (fun_ext (made_entries s formed w l el active ea e ee)))
 
 -- the word whose mask was looked for
 module _ (c : After-is_seen) where
   -- what is kept of the block is right at the word
-  high-told : c.high_at-high.result ≡ active_high c.columns_of-by.result.read_plain c.columns_of-by.result.read_named c.columns_of-by.result.m c.loop-w.w
-  high-told = c.high_at-high.ensures ∙ c.loop-w.invariant.3
+  high_told : c.high_at-high.result ≡ active_high c.columns_of-by.result.read_plain c.columns_of-by.result.read_named c.columns_of-by.result.m c.loop-w.w
+  high_told = c.high_at-high.ensures ∙ c.loop-w.invariant.3
 
-  active-told : c.active_in-active.result ≡ active_of c.args.set.now c.loop-w.w
-  active-told =
+  active_told : c.active_in-active.result ≡ active_of c.args.set.now c.loop-w.w
+  active_told =
       made_in_block c.args.set.now c.requires.0 c.loop-w.w c.columns_of-by.result c.columns_of-by.ensures c.lows-lows.result.of c.lows-lows.ensures
-      c.high_at-high.result high-told c.active_in-active.result c.active_in-active.ensures
+      c.high_at-high.result high_told c.active_in-active.result c.active_in-active.ensures
 
 -- a word that is passed has a safe vector, by its mask or by a look through its vectors
 passed : (c : Joined-not-is_seen) → (lacks c.args.set.now c.loop-w.w ≡ false) × Known c.args.set.now (lacks c.args.set.now) c.if-not-is_seen.seen
 passed c =
     let s = c.args.set.now in
-    let told = active-told c.before in
+    let told = active_told c.before in
     elim c.if-not-is_seen.branch [
       | then-not-is_seen+else-not-is_any_safe w ↦
-          let has = sym (lacks-told s c.requires.0 c.loop-w.w c.columns_of-by.result c.columns_of-by.ensures c.active_in-active.result told w.enter.result w.enter.ensures w.is_any_safe.result w.is_any_safe.ensures)
+          let has = sym (lacks_told s c.requires.0 c.loop-w.w c.columns_of-by.result c.columns_of-by.ensures c.active_in-active.result told w.enter.result w.enter.ensures w.is_any_safe.result w.is_any_safe.ensures)
           ∙ ap not w.if-not-is_any_safe.false in
           (has, known_more s (lacks s) (lacks_alike s c.requires.0) c.loop-w.seen c.loop-w.invariant.2 c.loop-w.w c.active_in-active.result told has _ (w.seen-is ∙ w.keep_seen.ensures))
       | else-not-is_seen w ↦ (
@@ -89,7 +89,7 @@ returns-then-not-is_any_safe c =
     let s = c.args.set.now in
     let l = c.loop-w in
     sym (first_is (2 ^ s.r) l.w (lacks s) (omega (arith, l.invariant.0, c.loop-w-test.true))
-    (sym (lacks-told s c.requires.0 l.w c.columns_of-by.result c.columns_of-by.ensures c.active_in-active.result (active-told (goal.at.returns-then-not-is_any_safe c).After-is_seen)
+    (sym (lacks_told s c.requires.0 l.w c.columns_of-by.result c.columns_of-by.ensures c.active_in-active.result (active_told (goal.at.returns-then-not-is_any_safe c).After-is_seen)
     c.enter.result c.enter.ensures c.is_any_safe.result c.is_any_safe.ensures) ∙ ap not c.if-not-is_any_safe.true)
     (some_false_at l.w (lacks s) l.invariant.1))
 
@@ -100,7 +100,7 @@ loop-w-preserved c =
       c.loop-w.invariant.0,
       some_miss _ c.loop-w.w c.loop-w.invariant.1 went.0,
       went.1,
-      high_next l.read_plain l.read_named l.m c.loop-w.w c.high_at-high.result (high-told (goal.at.loop-w-preserved c).After-is_seen),
+      high_next l.read_plain l.read_named l.m c.loop-w.w c.high_at-high.result (high_told (goal.at.loop-w-preserved c).After-is_seen),
     )
 
 pub returns : goal.returns

@@ -19,8 +19,8 @@ use Rattle.verdict.proofs.missing.is_any_safe.Goals.{After-scratch_bytes-bytes}
 
 -- the arguments of a call, and how many bytes there are
 module _ (c : After-scratch_bytes-bytes) where
-  bytes-told : c.scratch_bytes-bytes.result ≡ scratch_bytes c.args.n
-  bytes-told = c.scratch_bytes-bytes.ensures ∙ ap scratch_bytes (min-eq_left c.requires)
+  bytes_told : c.scratch_bytes-bytes.result ≡ scratch_bytes c.args.n
+  bytes_told = c.scratch_bytes-bytes.ensures ∙ ap scratch_bytes (min-eq_left c.requires)
 
 pub returns-then-is_safe : goal.returns-then-is_safe
 returns-then-is_safe c =
@@ -29,7 +29,7 @@ returns-then-is_safe c =
     sym (some_true (2 ^ a.n) (safe_over 0 0 a.entries.now.plain a.entries.now.named a.entries.now.count) 0 (pow_pos a.n) (sym told ∙ c.if-is_safe.true))
 
 pub overflow_cast-bytes : goal.overflow_cast-bytes
-overflow_cast-bytes c = omega (arith, bytes-told (goal.at.overflow_cast-bytes c).After-scratch_bytes-bytes, scratch_mono c.args.n most_outputs c.requires, scratch_eighth most_outputs (omega arith))
+overflow_cast-bytes c = omega (arith, bytes_told (goal.at.overflow_cast-bytes c).After-scratch_bytes-bytes, scratch_mono c.args.n most_outputs c.requires, scratch_eighth most_outputs (omega arith))
 
 pub returns : goal.returns
 returns c =
@@ -43,5 +43,5 @@ returns c =
     let told : held ≡ bit_and (low_held 0 0) (first_vectors a.n) = ap₂ bit_and h.low_held.ensures v.first_vectors.ensures in
     let byte : ℕ → ℕ = safe_byte held 0 0 c.eight.result.high.plain c.eight.result.high.named c.eight.result.low c.eight.result.high.count in
     let any : c.is_any_of.result ≡ some b.scratch_bytes-bytes.result (has_mark byte) = c.is_any_of.ensures in
-    any ∙ ap (λ (k : ℕ). some k (has_mark byte)) (bytes-told (goal.at.returns c).After-scratch_bytes-bytes)
+    any ∙ ap (λ (k : ℕ). some k (has_mark byte)) (bytes_told (goal.at.returns c).After-scratch_bytes-bytes)
     ∙ some_safe a.n a.entries.now.plain a.entries.now.named a.entries.now.count c.eight.result entries 0 0 held told

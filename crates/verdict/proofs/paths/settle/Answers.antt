@@ -42,9 +42,9 @@ module _ (next : ℕ → ℕ) (v : ℕ) (marks : List ℕ) where
   here limit e = come_here next marks limit v 0 v (omega arith) refl (some_none _) (marked marks v) refl e
 
   -- where it is not, and the one after a pass is, that is the first
-  one-pass : (limit : ℕ) → marked marks v ≡ false → 1 ≤ limit → (x : ℕ) → x ≡ next v → marked marks x ≡ true → 1 ≡ passes_to_mark next marks limit v
+  one_pass : (limit : ℕ) → marked marks v ≡ false → 1 ≤ limit → (x : ℕ) → x ≡ next v → marked marks x ≡ true → 1 ≡ passes_to_mark next marks limit v
   unfolding iterate
-  one-pass limit f h x ex e = come_here next marks limit v 1 x h ex (some_miss _ 0 (some_none _) f) (marked marks x) refl e
+  one_pass limit f h x ex e = come_here next marks limit v 1 x h ex (some_miss _ 0 (some_none _) f) (marked marks x) refl e
 
   -- a path of one vector
   alone : with_mark marks v ≡ path_marked next 1 v marks
@@ -76,7 +76,7 @@ returns-then-both c =
     let next = pass_in a.table.now in
     let on = and_true (ltb 0 a.table.now.limit) c.is_marked-2.result (sym c.both.ensures ∙ c.if-both.true) in
     let some = ltb-true 0 a.table.now.limit on.0 in
-    let soon = one-pass next a.from a.marks.now a.table.now.limit (sym c.is_marked.ensures ∙ c.if-is_marked.false) (omega arith) c.pass.result c.pass.ensures
+    let soon = one_pass next a.from a.marks.now a.table.now.limit (sym c.is_marked.ensures ∙ c.if-is_marked.false) (omega arith) c.pass.result c.pass.ensures
     (sym c.is_marked-2.ensures ∙ on.1) in record {
       value = comes next a.table.now.limit a.from a.marks.now 1 soon (omega arith);
       marks_after = came next a.table.now.limit a.from a.marks.now 1 soon (omega arith) _ (c.put_mark.ensures ∙ alone next a.from a.marks.now);

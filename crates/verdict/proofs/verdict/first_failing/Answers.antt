@@ -42,26 +42,26 @@ few c = let n = counts c.args.set.now c.requires.0 in (n.r_le, n.n_le)
 -- ---- a word, its active constraints, its table, its marks
 
 -- what the code makes of the literals, of what it keeps of the block and of the word is the mask of the word's active constraints
-active-told : (s : Set) → well_formed s ≡ true → (l : Columns) → l ≡ columns_of s → (lows : List ℕ) → lows ≡ lows_of l.read_plain l.read_named l.m
+active_told : (s : Set) → well_formed s ≡ true → (l : Columns) → l ≡ columns_of s → (lows : List ℕ) → lows ≡ lows_of l.read_plain l.read_named l.m
     → (w kept high : ℕ) → high_at l.read_plain l.read_named l.m w kept ≡ active_high l.read_plain l.read_named l.m w → high ≡ high_at l.read_plain l.read_named l.m w kept
     → (active : ℕ) → active ≡ active_in lows high w → active ≡ active_of s w
-active-told s formed l el lows elows w kept high inv eh active ea = made_in_block s formed w l el lows elows high (eh ∙ inv) active ea
+active_told s formed l el lows elows w kept high inv eh active ea = made_in_block s formed w l el lows elows high (eh ∙ inv) active ea
 
 -- and what it makes of the mask is the word's table
-table-told : (s : Set) (l : Columns) → l ≡ columns_of s → (w active : ℕ) → active ≡ active_of s w
+table_told : (s : Set) (l : Columns) → l ≡ columns_of s → (w active : ℕ) → active ≡ active_of s w
     → (t : Table) → t ≡ table_by s (holds_by l.out_plain l.out_negated l.m (bit_and active l.simple)) (without active l.simple) → t ≡ table_of s (active_of s w)
-table-told s l el w active ea t et = made_table s l el active t et ∙ ap (table_of s) ea
+table_told s l el w active ea t et = made_table s l el active t et ∙ ap (table_of s) ea
 
 -- the word whose active constraints were looked up
 module _ (c : After-active_in-active) where
   told : c.active_in-active.result ≡ active_of c.args.set.now c.words.w
   told =
-      active-told c.args.set.now c.requires.0 c.columns_of-by.result c.columns_of-by.ensures c.lows-lows.result.of c.lows-lows.ensures
+      active_told c.args.set.now c.requires.0 c.columns_of-by.result c.columns_of-by.ensures c.lows-lows.result.of c.lows-lows.ensures
       c.words.w c.words.high c.high_at-high.result c.words.invariant.5 c.high_at-high.ensures c.active_in-active.result c.active_in-active.ensures
 
-  goes-on : high_at c.columns_of-by.result.read_plain c.columns_of-by.result.read_named c.columns_of-by.result.m (c.words.w + 1) c.high_at-high.result
+  goes_on : high_at c.columns_of-by.result.read_plain c.columns_of-by.result.read_named c.columns_of-by.result.m (c.words.w + 1) c.high_at-high.result
       ≡ active_high c.columns_of-by.result.read_plain c.columns_of-by.result.read_named c.columns_of-by.result.m (c.words.w + 1)
-  goes-on = high_next c.columns_of-by.result.read_plain c.columns_of-by.result.read_named c.columns_of-by.result.m c.words.w c.high_at-high.result (c.high_at-high.ensures ∙ c.words.invariant.5)
+  goes_on = high_next c.columns_of-by.result.read_plain c.columns_of-by.result.read_named c.columns_of-by.result.m c.words.w c.high_at-high.result (c.high_at-high.ensures ∙ c.words.invariant.5)
 
   within : c.words.w < 2 ^ c.args.set.now.r
   within = omega (arith, c.words.invariant.0, c.words-test.true)
@@ -74,8 +74,8 @@ module _ (c : After-active_in-active) where
 module _ (c : After-table-t) where
   table : c.table-t.result ≡ table_of c.args.set.now (active_of c.args.set.now c.words.w)
   table =
-      table-told c.args.set.now c.columns_of-by.result c.columns_of-by.ensures c.words.w c.active_in-active.result
-      (active-told c.args.set.now c.requires.0 c.columns_of-by.result c.columns_of-by.ensures c.lows-lows.result.of c.lows-lows.ensures
+      table_told c.args.set.now c.columns_of-by.result c.columns_of-by.ensures c.words.w c.active_in-active.result
+      (active_told c.args.set.now c.requires.0 c.columns_of-by.result c.columns_of-by.ensures c.lows-lows.result.of c.lows-lows.ensures
       c.words.w c.words.high c.high_at-high.result c.words.invariant.5 c.high_at-high.ensures c.active_in-active.result c.active_in-active.ensures)
       c.table-t.result c.table-t.ensures
 
@@ -132,7 +132,7 @@ words-preserved-then-is_seen c =
       o.invariant.2,
       o.invariant.3,
       o.invariant.4,
-      goes-on a,
+      goes_on a,
       some_miss _ o.w o.invariant.6 (known_hit s (fails s) o.seen o.invariant.7 o.w c.active_in-active.result (told a) (sym c.is_seen.ensures ∙ c.if-is_seen.true)),
       o.invariant.7,
     )
@@ -161,7 +161,7 @@ words-preserved c =
       c.loop-g.invariant.0,
       c.loop-g.invariant.1.long,
       c.loop-g.invariant.2,
-      goes-on a,
+      goes_on a,
       some_miss _ o.w o.invariant.6 good,
       known_more s (fails s) (fails_alike s c.requires.0) o.seen o.invariant.7 o.w c.active_in-active.result (told a) good _ c.keep_seen.ensures,
     )

@@ -28,13 +28,13 @@ module _ (b : After-scratch_bytes-bytes) where
   abbrev bytes : ℕ
   bytes = b.scratch_bytes-bytes.result
 
-  bytes-told : bytes ≡ scratch_bytes set.n
-  bytes-told =
+  bytes_told : bytes ≡ scratch_bytes set.n
+  bytes_told =
       let told : bytes ≡ scratch_bytes (min set.n most_outputs) = b.scratch_bytes-bytes.ensures in
       told ∙ ap scratch_bytes (min-eq_left (counts set formed).n_le)
 
-  part-is : bytes - 0 ≡ scratch_bytes set.n
-  part-is = sub-zero bytes ∙ bytes-told
+  part_is : bytes - 0 ≡ scratch_bytes set.n
+  part_is = sub-zero bytes ∙ bytes_told
 
 pub returns-then-not-well_formed : goal.returns-then-not-well_formed
 returns-then-not-well_formed c =
@@ -45,7 +45,7 @@ pub returns-then-scratch-bytes : goal.returns-then-scratch-bytes
 returns-then-scratch-bytes c =
     let b = c in
     let a = b.args in
-    record { value = short_scratch a.set (length a.scratch.now) (formed (goal.at.returns-then-scratch-bytes c).After-scratch_bytes-bytes) (omega (arith, bytes-told (goal.at.returns-then-scratch-bytes c).After-scratch_bytes-bytes, c.if-scratch-bytes.true)); scratch_unchanged = refl }
+    record { value = short_scratch a.set (length a.scratch.now) (formed (goal.at.returns-then-scratch-bytes c).After-scratch_bytes-bytes) (omega (arith, bytes_told (goal.at.returns-then-scratch-bytes c).After-scratch_bytes-bytes, c.if-scratch-bytes.true)); scratch_unchanged = refl }
 
 pub first_failing-found-requires : goal.first_failing-found-requires
 first_failing-found-requires c =
@@ -53,7 +53,7 @@ first_failing-found-requires c =
     let b = f in
     let a = b.args in
     let room : bytes (goal.at.first_failing-found-requires c).After-scratch_bytes-bytes - 0 ≤ length a.scratch.now = omega (arith, f.if-scratch-bytes.false) in
-    (formed (goal.at.first_failing-found-requires c).After-scratch_bytes-bytes, length-take-le (bytes (goal.at.first_failing-found-requires c).After-scratch_bytes-bytes - 0) a.scratch.now room ∙ part-is (goal.at.first_failing-found-requires c).After-scratch_bytes-bytes, length-replicate {A = ℕ} trail_places 0, known_none a.set (formed (goal.at.first_failing-found-requires c).After-scratch_bytes-bytes))
+    (formed (goal.at.first_failing-found-requires c).After-scratch_bytes-bytes, length-take-le (bytes (goal.at.first_failing-found-requires c).After-scratch_bytes-bytes - 0) a.scratch.now room ∙ part_is (goal.at.first_failing-found-requires c).After-scratch_bytes-bytes, length-replicate {A = ℕ} trail_places 0, known_none a.set (formed (goal.at.first_failing-found-requires c).After-scratch_bytes-bytes))
 
 pub revise-requires : goal.revise-requires
 revise-requires c =
@@ -67,8 +67,8 @@ returns c =
     let f = j in
     let b = f in
     let a = b.args in
-    let room : scratch_bytes a.set.n ≤ length a.scratch.now = omega (arith, bytes-told (goal.at.returns c).After-scratch_bytes-bytes, f.if-scratch-bytes.false) in record {
+    let room : scratch_bytes a.set.n ≤ length a.scratch.now = omega (arith, bytes_told (goal.at.returns c).After-scratch_bytes-bytes, f.if-scratch-bytes.false) in record {
       value = c.revise.ensures ∙ judged a.set (length a.scratch.now) (formed (goal.at.returns c).After-scratch_bytes-bytes) room;
-      scratch_unchanged = later_kept a.set (length a.scratch.now) (formed (goal.at.returns c).After-scratch_bytes-bytes) room (bytes (goal.at.returns c).After-scratch_bytes-bytes - 0) (part-is (goal.at.returns c).After-scratch_bytes-bytes) j.first_failing-found.new.marks a.scratch.now
+      scratch_unchanged = later_kept a.set (length a.scratch.now) (formed (goal.at.returns c).After-scratch_bytes-bytes) room (bytes (goal.at.returns c).After-scratch_bytes-bytes - 0) (part_is (goal.at.returns c).After-scratch_bytes-bytes) j.first_failing-found.new.marks a.scratch.now
           (j.first_failing-found.auto.marks ∙ length-take-le (bytes (goal.at.returns c).After-scratch_bytes-bytes - 0) a.scratch.now (omega (arith, f.if-scratch-bytes.false)));
     }

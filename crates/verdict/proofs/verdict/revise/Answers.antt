@@ -42,8 +42,8 @@ module _ (f : In-NoEnd) where
   within = found_within set formed word request found
 
 -- the words are 2 ^ r
-words-is : (f : In-NoEnd) → (1 * 2 ^ (set f).r) % 2 ^ 32 ≡ 2 ^ (set f).r
-words-is f = one_shl 32 (set f).r (omega (arith, few f))
+words_is : (f : In-NoEnd) → (1 * 2 ^ (set f).r) % 2 ^ 32 ≡ 2 ^ (set f).r
+words_is f = one_shl 32 (set f).r (omega (arith, few f))
 
 pub overflow_add-word : goal.overflow_add-word
 overflow_add-word c = omega (arith, within (goal.at.overflow_add-word c).In-NoEnd, pow_mono {i = (set (goal.at.overflow_add-word c).In-NoEnd).r} {j = most_reads} (few (goal.at.overflow_add-word c).In-NoEnd))
@@ -68,13 +68,13 @@ returns-then-without-set c =
     let w = t in
     let f = w in
     let told : c.none_at.result ≡ none_at (set (goal.at.returns-then-without-set c).In-NoEnd) w.first_without-without.result = c.none_at.ensures in
-    told ∙ sym (judge_without (set (goal.at.returns-then-without-set c).In-NoEnd) w.first_without-without.result w.first_without-without.ensures (omega (arith, words-is (goal.at.returns-then-without-set c).In-NoEnd, t.if-without-set.true)))
+    told ∙ sym (judge_without (set (goal.at.returns-then-without-set c).In-NoEnd) w.first_without-without.result w.first_without-without.ensures (omega (arith, words_is (goal.at.returns-then-without-set c).In-NoEnd, t.if-without-set.true)))
 
 pub returns-else-without-set : goal.returns-else-without-set
 returns-else-without-set c =
     let w = c in
     let f = w in
-    stays_endless (set (goal.at.returns-else-without-set c).In-NoEnd) (formed (goal.at.returns-else-without-set c).In-NoEnd) (word (goal.at.returns-else-without-set c).In-NoEnd) (request (goal.at.returns-else-without-set c).In-NoEnd) (found (goal.at.returns-else-without-set c).In-NoEnd) w.first_without-without.result w.first_without-without.ensures (omega (arith, words-is (goal.at.returns-else-without-set c).In-NoEnd, c.if-without-set.false))
+    stays_endless (set (goal.at.returns-else-without-set c).In-NoEnd) (formed (goal.at.returns-else-without-set c).In-NoEnd) (word (goal.at.returns-else-without-set c).In-NoEnd) (request (goal.at.returns-else-without-set c).In-NoEnd) (found (goal.at.returns-else-without-set c).In-NoEnd) w.first_without-without.result w.first_without-without.ensures (omega (arith, words_is (goal.at.returns-else-without-set c).In-NoEnd, c.if-without-set.false))
 
 pub returns-in_default : goal.returns-in_default
 returns-in_default c =

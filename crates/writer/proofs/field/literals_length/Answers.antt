@@ -11,27 +11,27 @@ use Rattle.writer.proofs.LiteralBodyLaws.{literals_long}
 use Rattle.writer.proofs.field.literals_length.Goals as goal
 use Rattle.writer.proofs.field.literals_length.Goals.{After-literal_size, Start}
 
-few-reads : (c : Start) → ones (bit_or c.args.c.read_plain c.args.c.read_negated) ≤ most_reads
-few-reads c = ones-le most_reads (bit_or c.args.c.read_plain c.args.c.read_negated) c.requires.0
+few_reads : (c : Start) → ones (bit_or c.args.c.read_plain c.args.c.read_negated) ≤ most_reads
+few_reads c = ones-le most_reads (bit_or c.args.c.read_plain c.args.c.read_negated) c.requires.0
 
-few-outputs : (c : Start) → ones (outs c.args.c) ≤ most_outputs
-few-outputs c = ones-le most_outputs (outs c.args.c) c.requires.1
+few_outputs : (c : Start) → ones (outs c.args.c) ≤ most_outputs
+few_outputs c = ones-le most_outputs (outs c.args.c) c.requires.1
 
 -- the product is small
 bounded : (c : After-literal_size) → let a = c.args in
     c.literal_size.result * (ones (bit_or a.c.read_plain a.c.read_negated) + ones (outs a.c)) ≤ 3 * (most_reads + most_outputs)
 bounded c =
     let s = c in
-    mul-le-mul {n₂ = 3} {m₂ = most_reads + most_outputs} (omega (arith, c.literal_size.ensures, size_bounds s.args.wide)) (omega (arith, few-reads c.before.before.before, few-outputs c.before.before.before))
+    mul-le-mul {n₂ = 3} {m₂ = most_reads + most_outputs} (omega (arith, c.literal_size.ensures, size_bounds s.args.wide)) (omega (arith, few_reads c.before.before.before, few_outputs c.before.before.before))
 
 pub overflow_cast-result : goal.overflow_cast-result
-overflow_cast-result c = omega (arith, few-reads (goal.at.overflow_cast-result c).Start)
+overflow_cast-result c = omega (arith, few_reads (goal.at.overflow_cast-result c).Start)
 
 pub overflow_cast-result-2 : goal.overflow_cast-result-2
-overflow_cast-result-2 c = omega (arith, few-outputs (goal.at.overflow_cast-result-2 c).Start)
+overflow_cast-result-2 c = omega (arith, few_outputs (goal.at.overflow_cast-result-2 c).Start)
 
 pub overflow_add-result : goal.overflow_add-result
-overflow_add-result c = omega (arith, few-reads (goal.at.overflow_add-result c).Start, few-outputs (goal.at.overflow_add-result c).Start)
+overflow_add-result c = omega (arith, few_reads (goal.at.overflow_add-result c).Start, few_outputs (goal.at.overflow_add-result c).Start)
 
 pub overflow_mul-result : goal.overflow_mul-result
 overflow_mul-result c = omega (arith, bounded (goal.at.overflow_mul-result c).After-literal_size)

@@ -32,11 +32,11 @@ told s = literals_told s.args.wide s.args.c (long s)
 room : (s : Start) → s.args.at + length (readPart s ++ outputPart s) ≤ length s.args.buf.now
 room s = subst (λ (l : List ℕ). s.args.at + length l ≤ length s.args.buf.now) (sym (told s)) s.requires.1
 
-read-room : (s : Start) → s.args.at + length (readPart s) ≤ length s.args.buf.now
-read-room s = omega (arith, room s, length-append (readPart s) (outputPart s))
+read_room : (s : Start) → s.args.at + length (readPart s) ≤ length s.args.buf.now
+read_room s = omega (arith, room s, length-append (readPart s) (outputPart s))
 
 pub put_literals-next-requires : goal.put_literals-next-requires
-put_literals-next-requires c = let s = c in (omega arith, omega arith, s.requires.0.0, read-room (goal.at.put_literals-next-requires c).Start)
+put_literals-next-requires c = let s = c in (omega arith, omega arith, s.requires.0.0, read_room (goal.at.put_literals-next-requires c).Start)
 
 pub put_literals-requires : goal.put_literals-requires
 put_literals-requires c =
@@ -55,4 +55,4 @@ returns c =
     let s = p in
     let a = s.args in
     subst (λ (l : List ℕ). Put a.buf.now a.at l q.put_literals.new.buf q.put_literals.result) (told (goal.at.returns c).Start)
-    (put_then a.buf.now a.at (readPart (goal.at.returns c).Start) (outputPart (goal.at.returns c).Start) _ _ _ _ (read-room (goal.at.returns c).Start) p.put_literals-next.ensures q.put_literals.ensures)
+    (put_then a.buf.now a.at (readPart (goal.at.returns c).Start) (outputPart (goal.at.returns c).Start) _ _ _ _ (read_room (goal.at.returns c).Start) p.put_literals-next.ensures q.put_literals.ensures)

@@ -24,8 +24,8 @@ grow : (s : Start)
 grow s = let a = s.args in joined_grow (literal_at a.wide a.flags a.plain a.named a.ranks.now) (length a.ranks.now)
 
 -- the lowest point that is left
-abbrev next-point : In-loop-left → ℕ
-next-point c = count_trailing_zeros 32 c.loop-left.left
+abbrev next_point : In-loop-left → ℕ
+next_point c = count_trailing_zeros 32 c.loop-left.left
 
 found : (c : In-loop-left) → Lowest c.loop-left.left (count_trailing_zeros 32 c.loop-left.left)
 found c = let l = c.loop-left in lowest 32 l.left c.loop-left-test.true l.invariant.3
@@ -33,7 +33,7 @@ found c = let l = c.loop-left in lowest 32 l.left c.loop-left-test.true l.invari
 named_here : (c : In-loop-left) → bit (count_trailing_zeros 32 c.loop-left.left) c.args.named ≡ true
 named_here c = let l = c.loop-left in rest_here c.args.named l.left l.invariant.0 (count_trailing_zeros 32 c.loop-left.left) l.invariant.2 (found c)
 
-few : (c : In-loop-left) → next-point c < length c.args.ranks.now
+few : (c : In-loop-left) → next_point c < length c.args.ranks.now
 few c = let s = c in bit_below (length s.args.ranks.now) (count_trailing_zeros 32 c.loop-left.left) s.args.named s.requires.2 (named_here c)
 
 -- the literals before it are in place
@@ -43,7 +43,7 @@ reached c =
     let a = c.args in
     let l = c.loop-left in
     let k = l.invariant.0 in
-    let t = next-point c in
+    let t = next_point c in
     let r = l.invariant.2 in (
       omega (arith, few c),
       subst (λ (x : List ℕ). Put a.buf.now a.at x l.buf l.next)
@@ -92,7 +92,7 @@ put_literal-next-requires c =
     let a = s.args in (
       omega (arith, few (goal.at.put_literal-next-requires c).In-loop-left, s.requires.1, g.signed-own.ensures.1),
       subst (λ (x : List ℕ). l.next + length x ≤ length l.buf) (literal (goal.at.put_literal-next-requires c).After-signed-own (named_here (goal.at.put_literal-next-requires c).In-loop-left))
-          (puts_room (grow (goal.at.put_literal-next-requires c).Start) a.buf.now a.at s.requires.3 l.buf l.next (next-point (goal.at.put_literal-next-requires c).In-loop-left) (reached (goal.at.put_literal-next-requires c).In-loop-left) (few (goal.at.put_literal-next-requires c).In-loop-left)),
+          (puts_room (grow (goal.at.put_literal-next-requires c).Start) a.buf.now a.at s.requires.3 l.buf l.next (next_point (goal.at.put_literal-next-requires c).In-loop-left) (reached (goal.at.put_literal-next-requires c).In-loop-left) (few (goal.at.put_literal-next-requires c).In-loop-left)),
     )
 
 pub overflow_sub-left : goal.overflow_sub-left
@@ -112,10 +112,10 @@ loop-left-preserved c =
     let l = t.loop-left in
     let s = t in
     let a = s.args in (
-      next-point (goal.at.loop-left-preserved c).In-loop-left + 1,
-      puts_one (grow (goal.at.loop-left-preserved c).Start) a.buf.now a.at s.requires.3 l.buf l.next (next-point (goal.at.loop-left-preserved c).In-loop-left) _ _ (reached (goal.at.loop-left-preserved c).In-loop-left) (few (goal.at.loop-left-preserved c).In-loop-left)
+      next_point (goal.at.loop-left-preserved c).In-loop-left + 1,
+      puts_one (grow (goal.at.loop-left-preserved c).Start) a.buf.now a.at s.requires.3 l.buf l.next (next_point (goal.at.loop-left-preserved c).In-loop-left) _ _ (reached (goal.at.loop-left-preserved c).In-loop-left) (few (goal.at.loop-left-preserved c).In-loop-left)
           (subst (λ (x : List ℕ). Put l.buf l.next x p.put_literal-next.new.buf p.put_literal-next.result) (sym (literal (goal.at.loop-left-preserved c).After-signed-own (named_here (goal.at.loop-left-preserved c).In-loop-left))) p.put_literal-next.ensures),
-      rest_next a.named l.left l.invariant.0 (next-point (goal.at.loop-left-preserved c).In-loop-left) l.invariant.2 (found (goal.at.loop-left-preserved c).In-loop-left),
+      rest_next a.named l.left l.invariant.0 (next_point (goal.at.loop-left-preserved c).In-loop-left) l.invariant.2 (found (goal.at.loop-left-preserved c).In-loop-left),
       omega (arith, l.invariant.3, and_le_r l.left (l.left - 1)),
     )
 

@@ -13,8 +13,8 @@ use Rattle.writer.proofs.WriteLaws.{put_over}
 use Rattle.writer.proofs.field.put_name.Goals as goal
 use Rattle.writer.proofs.field.put_name.Goals.{Start}
 
-name-long : (c : Start) → length c.args.name ≡ name_places
-name-long c = search rules
+name_long : (c : Start) → length c.args.name ≡ name_places
+name_long c = search rules
 
 short : (c : Start) → c.args.len ≤ length c.args.name
 short c = omega (arith, c.requires.0, name_short c.args.name)

@@ -25,39 +25,39 @@ fits c = omega (arith, c.requires.1)
 abbrev Done : Start → List ℕ → List ℕ → ℕ → Type 0
 Done s bytes after next = Put s.args.buf.now 0 bytes after next
 
-done-1 : (c : After-put_counts-reads_at) → Done c.before.before.before.before.before.before (counts_put c.args.set) c.put_counts-reads_at.new.buf c.put_counts-reads_at.result
-done-1 c = c.put_counts-reads_at.ensures
+done_1 : (c : After-put_counts-reads_at) → Done c.before.before.before.before.before.before (counts_put c.args.set) c.put_counts-reads_at.new.buf c.put_counts-reads_at.result
+done_1 c = c.put_counts-reads_at.ensures
 
-done-2 : (c : After-put_reads-outputs_at) → Done c.before.before.before.before.before.before.before.before.before.before (reads_put c.args.set) c.put_reads-outputs_at.new.buf c.put_reads-outputs_at.result
-done-2 c =
+done_2 : (c : After-put_reads-outputs_at) → Done c.before.before.before.before.before.before.before.before.before.before (reads_put c.args.set) c.put_reads-outputs_at.new.buf c.put_reads-outputs_at.result
+done_2 c =
     let s = c in
     let a = s.args in
     let buf = a.buf.now in
-    put_then buf 0 (counts_put a.set) (read_fields a.set.reads a.set.r) _ _ _ _ (room_counts a.set (length buf) (fits c.before.before.before.before.before.before.before.before.before.before)) (done-1 c.before.before.before.before) c.put_reads-outputs_at.ensures
+    put_then buf 0 (counts_put a.set) (read_fields a.set.reads a.set.r) _ _ _ _ (room_counts a.set (length buf) (fits c.before.before.before.before.before.before.before.before.before.before)) (done_1 c.before.before.before.before) c.put_reads-outputs_at.ensures
 
-done-3 : (c : After-put_outputs-rest_at) → Done c.before.before.before.before.before.before.before.before.before.before.before.before.before.before (outputs_put c.args.set) c.put_outputs-rest_at.new.buf c.put_outputs-rest_at.result
-done-3 c =
+done_3 : (c : After-put_outputs-rest_at) → Done c.before.before.before.before.before.before.before.before.before.before.before.before.before.before (outputs_put c.args.set) c.put_outputs-rest_at.new.buf c.put_outputs-rest_at.result
+done_3 c =
     let s = c in
     let a = s.args in
     let buf = a.buf.now in
-    put_then buf 0 (reads_put a.set) (output_fields a.set.outputs a.set.n) _ _ _ _ (room_reads a.set (length buf) (fits c.before.before.before.before.before.before.before.before.before.before.before.before.before.before)) (done-2 c.before.before.before.before) c.put_outputs-rest_at.ensures
+    put_then buf 0 (reads_put a.set) (output_fields a.set.outputs a.set.n) _ _ _ _ (room_reads a.set (length buf) (fits c.before.before.before.before.before.before.before.before.before.before.before.before.before.before)) (done_2 c.before.before.before.before) c.put_outputs-rest_at.ensures
 
-done-4 : (c : After-put_rest-constraints_at) → Done c.before.before.before.before.before.before.before.before.before.before.before.before.before.before.before.before.before.before (rest_put c.args.set) c.put_rest-constraints_at.new.buf c.put_rest-constraints_at.result
-done-4 c =
+done_4 : (c : After-put_rest-constraints_at) → Done c.before.before.before.before.before.before.before.before.before.before.before.before.before.before.before.before.before.before (rest_put c.args.set) c.put_rest-constraints_at.new.buf c.put_rest-constraints_at.result
+done_4 c =
     let s = c in
     let a = s.args in
     let buf = a.buf.now in
-    put_then buf 0 (outputs_put a.set) (rest_field a.set.rest) _ _ _ _ (room_outputs a.set (length buf) (fits c.before.before.before.before.before.before.before.before.before.before.before.before.before.before.before.before.before.before)) (done-3 c.before.before.before.before) c.put_rest-constraints_at.ensures
+    put_then buf 0 (outputs_put a.set) (rest_field a.set.rest) _ _ _ _ (room_outputs a.set (length buf) (fits c.before.before.before.before.before.before.before.before.before.before.before.before.before.before.before.before.before.before)) (done_3 c.before.before.before.before) c.put_rest-constraints_at.ensures
 
-done-5 : (c : After-put_constraints-end) → Done c.before.before.before.before.before.before.before.before.before.before.before.before.before.before.before.before.before.before.before.before.before.before (constraints_put c.args.set) c.put_constraints-end.new.buf c.put_constraints-end.result
-done-5 c =
+done_5 : (c : After-put_constraints-end) → Done c.before.before.before.before.before.before.before.before.before.before.before.before.before.before.before.before.before.before.before.before.before.before (constraints_put c.args.set) c.put_constraints-end.new.buf c.put_constraints-end.result
+done_5 c =
     let s = c in
     let a = s.args in
     let buf = a.buf.now in
     let p = c in
     let fields = constraint_fields a.set.constraints a.set.m in
     let behind : Put p.put_rest-constraints_at.new.buf p.put_rest-constraints_at.result fields c.put_constraints-end.new.buf c.put_constraints-end.result = c.put_constraints-end.ensures in
-    put_then buf 0 (rest_put a.set) fields p.put_rest-constraints_at.new.buf c.put_constraints-end.new.buf p.put_rest-constraints_at.result c.put_constraints-end.result (room_rest a.set (length buf) (fits c.before.before.before.before.before.before.before.before.before.before.before.before.before.before.before.before.before.before.before.before.before.before)) (done-4 c.before.before.before.before) behind
+    put_then buf 0 (rest_put a.set) fields p.put_rest-constraints_at.new.buf c.put_constraints-end.new.buf p.put_rest-constraints_at.result c.put_constraints-end.result (room_rest a.set (length buf) (fits c.before.before.before.before.before.before.before.before.before.before.before.before.before.before.before.before.before.before.before.before.before.before)) (done_4 c.before.before.before.before) behind
 
 -- ---- the needs
 
@@ -75,7 +75,7 @@ put_reads-outputs_at-requires c =
     let a = s.args in
     let buf = a.buf.now in (
       (counts a.set s.requires.0).r_le,
-      next_room buf 0 (counts_put a.set) (read_fields a.set.reads a.set.r) p.put_counts-reads_at.new.buf p.put_counts-reads_at.result (done-1 (goal.at.put_reads-outputs_at-requires c).After-put_counts-reads_at) (room_reads a.set (length buf) (fits (goal.at.put_reads-outputs_at-requires c).Start)),
+      next_room buf 0 (counts_put a.set) (read_fields a.set.reads a.set.r) p.put_counts-reads_at.new.buf p.put_counts-reads_at.result (done_1 (goal.at.put_reads-outputs_at-requires c).After-put_counts-reads_at) (room_reads a.set (length buf) (fits (goal.at.put_reads-outputs_at-requires c).Start)),
     )
 
 pub put_outputs-rest_at-requires : goal.put_outputs-rest_at-requires
@@ -85,7 +85,7 @@ put_outputs-rest_at-requires c =
     let a = s.args in
     let buf = a.buf.now in (
       (counts a.set s.requires.0).n_le,
-      next_room buf 0 (reads_put a.set) (output_fields a.set.outputs a.set.n) p.put_reads-outputs_at.new.buf p.put_reads-outputs_at.result (done-2 (goal.at.put_outputs-rest_at-requires c).After-put_reads-outputs_at) (room_outputs a.set (length buf) (fits (goal.at.put_outputs-rest_at-requires c).Start)),
+      next_room buf 0 (reads_put a.set) (output_fields a.set.outputs a.set.n) p.put_reads-outputs_at.new.buf p.put_reads-outputs_at.result (done_2 (goal.at.put_outputs-rest_at-requires c).After-put_reads-outputs_at) (room_outputs a.set (length buf) (fits (goal.at.put_outputs-rest_at-requires c).Start)),
     )
 
 pub put_rest-constraints_at-requires : goal.put_rest-constraints_at-requires
@@ -94,7 +94,7 @@ put_rest-constraints_at-requires c =
     let s = p in
     let a = s.args in
     let buf = a.buf.now in
-    next_room buf 0 (outputs_put a.set) (rest_field a.set.rest) p.put_outputs-rest_at.new.buf p.put_outputs-rest_at.result (done-3 (goal.at.put_rest-constraints_at-requires c).After-put_outputs-rest_at) (room_rest a.set (length buf) (fits (goal.at.put_rest-constraints_at-requires c).Start))
+    next_room buf 0 (outputs_put a.set) (rest_field a.set.rest) p.put_outputs-rest_at.new.buf p.put_outputs-rest_at.result (done_3 (goal.at.put_rest-constraints_at-requires c).After-put_outputs-rest_at) (room_rest a.set (length buf) (fits (goal.at.put_rest-constraints_at-requires c).Start))
 
 pub put_constraints-end-requires : goal.put_constraints-end-requires
 unfolding constraint
@@ -105,7 +105,7 @@ put_constraints-end-requires c =
     let buf = a.buf.now in (
       (counts a.set s.requires.0).m_le,
       masks_few a.set s.requires.0,
-      next_room buf 0 (rest_put a.set) (constraint_fields a.set.constraints a.set.m) p.put_rest-constraints_at.new.buf p.put_rest-constraints_at.result (done-4 (goal.at.put_constraints-end-requires c).After-put_rest-constraints_at) (room_constraints a.set (length buf) (fits (goal.at.put_constraints-end-requires c).Start)),
+      next_room buf 0 (rest_put a.set) (constraint_fields a.set.constraints a.set.m) p.put_rest-constraints_at.new.buf p.put_rest-constraints_at.result (done_4 (goal.at.put_constraints-end-requires c).After-put_rest-constraints_at) (room_constraints a.set (length buf) (fits (goal.at.put_constraints-end-requires c).Start)),
     )
 
 pub put_header-requires : goal.put_header-requires
@@ -115,7 +115,7 @@ put_header-requires c =
     let a = s.args in
     let buf = a.buf.now in
     let end = p.put_constraints-end in
-    omega (arith, next_room buf 0 (constraints_put a.set) (field_of 0x05 []) end.new.buf end.result (done-5 (goal.at.put_header-requires c).After-put_constraints-end) (room_end a.set (length buf) (fits (goal.at.put_header-requires c).Start)))
+    omega (arith, next_room buf 0 (constraints_put a.set) (field_of 0x05 []) end.new.buf end.result (done_5 (goal.at.put_header-requires c).After-put_constraints-end) (room_end a.set (length buf) (fits (goal.at.put_header-requires c).Start)))
 
 pub returns : goal.returns
 returns c =
@@ -124,5 +124,5 @@ returns c =
     let s = p in
     let a = s.args in
     let buf = a.buf.now in
-    (put_then buf 0 (constraints_put a.set) (field_of 0x05 []) _ _ _ _ (room_constraints a.set (length buf) (fits (goal.at.returns c).Start)) (done-5 (goal.at.returns c).After-put_constraints-end) e.put_header.ensures).0
+    (put_then buf 0 (constraints_put a.set) (field_of 0x05 []) _ _ _ _ (room_constraints a.set (length buf) (fits (goal.at.returns c).Start)) (done_5 (goal.at.returns c).After-put_constraints-end) e.put_header.ensures).0
     ∙ ap (put_at buf 0) (file_ends a.set)

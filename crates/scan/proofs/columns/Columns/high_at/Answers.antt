@@ -13,9 +13,9 @@ module _ (plain named : List ℕ) (m w kept : ℕ) where
   unfolding high_at
   anew x e h = e ∙ cond_true _ (active_high plain named m w) kept (eq-eqb (w % 8) 0 h)
 
-  as-kept : (w % 8 ≡ 0 → ⊥) → kept ≡ high_at plain named m w kept
+  as_kept : (w % 8 ≡ 0 → ⊥) → kept ≡ high_at plain named m w kept
   unfolding high_at
-  as-kept h = cond_false _ (active_high plain named m w) kept (ne_eqb (w % 8) 0 h)
+  as_kept h = cond_false _ (active_high plain named m w) kept (ne_eqb (w % 8) 0 h)
 
 pub returns-then-w-eq0 : goal.returns-then-w-eq0
 returns-then-w-eq0 c =
@@ -27,4 +27,4 @@ returns-then-w-eq0 c =
 pub returns-else-w-eq0 : goal.returns-else-w-eq0
 returns-else-w-eq0 c =
     let a = c.args in
-    as-kept a.self.now.read_plain a.self.now.read_named a.self.now.m a.w a.kept c.if-w-eq0.false
+    as_kept a.self.now.read_plain a.self.now.read_named a.self.now.m a.w a.kept c.if-w-eq0.false
