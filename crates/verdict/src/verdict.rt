@@ -37,8 +37,8 @@ fn first_failing(
     ensures value { result ≡ first_failing set.now }
     ensures known { Known set.now (fails set.now) seen.new }
 {
-    // no shifted 1, for speed: the test against it would become a shift at every word and request
-    let words = 2u32.pow(set.r as u32);
+    let words = 1u32 << set.r;
+    // no shifted 1, for speed: the test against it would become a shift at every request
     let requests = 2u16.pow(set.n as u32);
     let by = columns_of(set);
     let lows = by.lows();

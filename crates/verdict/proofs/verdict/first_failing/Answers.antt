@@ -97,14 +97,14 @@ module _ (c : After-settle) (table : c.table-t.result ≡ table_of c.args.set.no
       c.loop-g.marks c.loop-g.invariant.1 c.loop-g.g fits c.start_vector.result c.start_vector.ensures
       c.settle.result _ c.settle.ensures.value c.settle.ensures.marks_after
 
+pub overflow_cast-words : goal.overflow_cast-words
+overflow_cast-words c = omega (arith, few (goal.at.overflow_cast-words c).Start)
+
+pub overflow_shl-words : goal.overflow_shl-words
+overflow_shl-words c = omega (arith, few (goal.at.overflow_shl-words c).Start)
+
 pub overflow_cast-set : goal.overflow_cast-set
 overflow_cast-set c = omega (arith, few (goal.at.overflow_cast-set c).Start)
-
-pub pow-words-requires : goal.pow-words-requires
-pow-words-requires c = let f = few (goal.at.pow-words-requires c).Start in omega (arith, pow_mono {i = c.args.set.now.r} {j = most_reads} f.0)
-
-pub overflow_cast-set-2 : goal.overflow_cast-set-2
-overflow_cast-set-2 c = omega (arith, few (goal.at.overflow_cast-set-2 c).Start)
 
 pub pow-requests-requires : goal.pow-requests-requires
 pow-requests-requires c = let f = few (goal.at.pow-requests-requires c).Start in omega (arith, pow_mono {i = c.args.set.now.n} {j = most_outputs} f.1)
@@ -112,7 +112,7 @@ pow-requests-requires c = let f = few (goal.at.pow-requests-requires c).Start in
 pub words-init : goal.words-init
 words-init c =
     let l = c.columns_of-by.result in (
-      c.pow-words.ensures,
+      one_shl 32 c.args.set.now.r (omega (arith, (few (goal.at.words-init c).Start).0)),
       c.pow-requests.ensures,
       refl,
       c.requires.1,
