@@ -20,16 +20,7 @@ fn digit_of(x: u32, j: usize) -> u8
     requires { j < 4 }
     ensures { result ≡ digit x j }
 {
-    if j == 0 {
-        return (x % 256) as u8;
-    }
-    if j == 1 {
-        return (x / 256 % 256) as u8;
-    }
-    if j == 2 {
-        return (x / 65536 % 256) as u8;
-    }
-    (x / 16777216 % 256) as u8
+    x.to_le_bytes()[j]
 }
 
 fn kind_byte(kind: Kind) -> u8

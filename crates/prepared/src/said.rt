@@ -31,13 +31,13 @@ fn kind_from(tag: u8, index: u8) -> Kind
 fn join2(low: u8, high: u8) -> u16
     ensures { result ≡ two low high }
 {
-    high as u16 * 256 + low as u16
+    u16::from_le_bytes([low, high])
 }
 
 fn join4(a: u8, b: u8, c: u8, d: u8) -> u32
     ensures { result ≡ four a b c d }
 {
-    join2(c, d) as u32 * 65536 + join2(a, b) as u32
+    u32::from_le_bytes([a, b, c, d])
 }
 
 fn name_in(b: &[u8; PREPARED_BYTES], at: usize) -> [u8; NAME_PLACES]
@@ -128,7 +128,7 @@ fn reads_in(b: &[u8; PREPARED_BYTES], r: usize) -> [ReadPoint; MOST_READS]
     reads
 }
 
-// The first n outputs, with zeros behind them.
+// The first n outputs, with zeros behind them. One function for the three kinds would take what is read, and the zero, from its caller: no plainer than the loop.
 fn outputs_in(b: &[u8; PREPARED_BYTES], n: usize) -> [OutputPoint; MOST_OUTPUTS]
     ensures { result ≡ first_of n most_outputs zero_output (output_in b.now) }
 {
