@@ -7,6 +7,7 @@ use loader::load;
 use shape::{FindError, Point, find, number_of};
 
 // Whether the point is an output, 1, or a read point, 0; and its number.
+// A flat struct with numbers, since C reads it.
 #[repr(C)]
 #[derive(Clone, Copy)]
 pub struct FindResult {

@@ -9,6 +9,7 @@ use loader::load;
 use verdict::{Verdict, judge, number_of};
 
 // The verdict: with 22, 23 and 58 the read word, with 23 the request, with 58 the output that is forced both ways.
+// A flat struct with numbers, since C reads it.
 #[repr(C)]
 #[derive(Clone, Copy)]
 pub struct VerdictResult {

@@ -7,6 +7,7 @@ use loader::{LoadAnswer, load, number_of};
 use scan::Set;
 
 // The counts of the file's set; or the refusal of the file, with the offset of the field's first byte.
+// A flat struct with numbers, since C reads it.
 #[repr(C)]
 #[derive(Clone, Copy)]
 pub struct LoadResult {

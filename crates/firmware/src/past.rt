@@ -5,6 +5,7 @@ ghost use Rattle.firmware.specs.Past.{with_past, past_of};
 use scan::{Set, State};
 
 // The vector sent and the sensor word of the last scan that was accepted, and whether one was since the start: 0 says no.
+// A flat struct with numbers, since C reads it.
 #[repr(C)]
 #[derive(Clone, Copy)]
 pub struct Past {

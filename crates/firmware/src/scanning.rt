@@ -8,6 +8,7 @@ use loader::load;
 use machine::{ScanAnswer, Scanned, number_of, scan};
 
 // The vector sent and the passes made, or the refusal; and the past for the next scan.
+// A flat struct with numbers, since C reads it.
 #[repr(C)]
 #[derive(Clone, Copy)]
 pub struct ScanResult {

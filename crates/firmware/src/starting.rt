@@ -10,6 +10,7 @@ use loader::load;
 use start::{Started, start};
 
 // The verdict, and the past for the first scan.
+// A flat struct with numbers, since C reads it.
 #[repr(C)]
 #[derive(Clone, Copy)]
 pub struct StartResult {

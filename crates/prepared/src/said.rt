@@ -105,7 +105,7 @@ fn reads_in(b: &[u8; PREPARED_BYTES], r: usize) -> [ReadPoint; MOST_READS]
     reads
 }
 
-// The first n outputs, with zeros behind them.
+// The first n outputs, with zeros behind them. One function for the three kinds would take what is read, and the zero, from its caller: no plainer than the loop.
 fn outputs_in(b: &[u8; PREPARED_BYTES], n: usize) -> [OutputPoint; MOST_OUTPUTS]
     ensures { result ≡ first_of n most_outputs zero_output (output_in b.now) }
 {

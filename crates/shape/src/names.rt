@@ -99,7 +99,7 @@ pub fn names_of_reads(reads: [ReadPoint; MOST_READS]) -> [[u8; NAME_PLACES]; MOS
     names
 }
 
-// The names of the outputs.
+// The names of the outputs. One function for both kinds of points would need a trait with the name and its law: no plainer than these lines.
 pub fn names_of_outputs(outputs: [OutputPoint; MOST_OUTPUTS]) -> [[u8; NAME_PLACES]; MOST_OUTPUTS]
     ensures { OutputNames result outputs }
 {

@@ -142,6 +142,7 @@ fn is_output_ok<'a>(
     )
 }
 
+// With its like for read points: what is asked of the two kinds differs, so that one function would only pass both tests in.
 fn is_output_place_ok<'a>(
     reads: &'a [[u8; NAME_PLACES]; MOST_READS],
     r: usize,

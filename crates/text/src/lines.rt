@@ -23,7 +23,7 @@ fn put_output(buf: &mut [u8], at: usize, p: OutputPoint) -> usize
     put_byte(buf, end, 0x0A)
 }
 
-// The lines of the outputs.
+// The lines of the outputs. Each kind has a line of its own, made of other names, so that one function for all would only pass that in.
 pub fn put_outputs(
     buf: &mut [u8],
     at: usize,

@@ -139,7 +139,7 @@ fn put_literal(buf: &mut [u8], at: usize, wide: bool, flags: u8, number: u8, ran
     put_two(buf, at, flags + number, rank)
 }
 
-// The literals of the points that are named, each with its rank. Each turn takes the lowest point that is left.
+// The literals of the points that are named, each with its rank. Each turn takes the lowest point that is left: the loop goes over bits, and counts nothing.
 fn put_literals(
     buf: &mut [u8],
     at: usize,

@@ -53,6 +53,7 @@ fn reads_length(reads: [ReadPoint; MOST_READS], r: usize) -> usize
     len
 }
 
+// The same of the outputs, and so below: one function for both kinds would need a trait with the body of a field and its laws, and would be no plainer.
 fn outputs_length(outputs: [OutputPoint; MOST_OUTPUTS], n: usize) -> usize
     requires { n ≤ most_outputs }
     ensures { (result ≡ length (output_fields outputs n)) × (result ≤ most_outputs * (3 + name_places)) }
