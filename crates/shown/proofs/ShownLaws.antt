@@ -41,9 +41,9 @@ module _ (file : List ℕ) (loaded : Loaded) (e : loaded ≡ load_of file) (a : 
   after_told buf = ap (answer_after loaded.set buf) (sym h) ∙ ap (λ (l : Loaded). answer_after l.set buf l.answer) e
 
 -- the length of a text that was put, else 0, as the code says it
-pub put_or_none : (r : Result ℕ PutError) → result_unwrap_or r 0 ≡ length_put r
-put_or_none (Ok size) = refl
-put_or_none (Err e) = refl
+pub put_or_none : (x : ℕ) (r : Result ℕ PutError) → x ≡ result_unwrap_or r 0 → x ≡ length_put r
+put_or_none x (Ok size) e = e
+put_or_none x (Err error) e = e
 
 -- ---- the whole of it
 

@@ -14,7 +14,8 @@ returns-in-Loaded c =
     let t = p in
     let f = t in
     let a = f.args in
-    let file = a.file.now in record { value = c.unwrap_or.ensures ∙ put_or_none p.put_text.result ∙ ap length_put p.put_text.ensures.value ∙ length_told file f.load-loaded.result f.load-loaded.ensures WasLoaded t.in-Loaded.is (length a.buf.now); buf_after = p.put_text.ensures.buf_after ∙ after_told file f.load-loaded.result f.load-loaded.ensures WasLoaded t.in-Loaded.is a.buf.now }
+    let put = put_or_none c.unwrap_or.result p.put_text.result c.unwrap_or.ensures in
+    let file = a.file.now in record { value = put ∙ ap length_put p.put_text.ensures.value ∙ length_told file f.load-loaded.result f.load-loaded.ensures WasLoaded t.in-Loaded.is (length a.buf.now); buf_after = p.put_text.ensures.buf_after ∙ after_told file f.load-loaded.result f.load-loaded.ensures WasLoaded t.in-Loaded.is a.buf.now }
 
 pub returns-in-Refused : goal.returns-in-Refused
 returns-in-Refused c =
