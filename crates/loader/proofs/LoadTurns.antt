@@ -7,20 +7,17 @@ use Prim.Native.Nat.{ℕ, zero, suc, ◌+◌, ◌-◌, ◌≤◌, ◌<◌, min}
 use native.Mathlib.Nat.{min-eq_left}
 use native.Mathlib.Omega.{arith}
 use lib.Dec.{ltb}
-use lib.ListN.{length, drop, get_or, take}
+use lib.ListN.{length, drop, take}
 use borrow.Author.Tests.{eq-eqb, ne_eqb}
-use Rattle.words.specs.Loop.{every}
 use Rattle.scan.specs.declared.set.Set.{Set}
 use Rattle.scan.specs.Set.{most_reads, most_outputs, most_constraints}
-use Rattle.scan.specs.Shape.{count_tests}
-use Rattle.scan.proofs.ShapeLaws.{counts_told_law}
 use Rattle.std.specs.Prelude.{Result, Ok, Err}
 use Rattle.header.specs.declared.numbers.Refusal.{Refusal}
 use Rattle.header.specs.Fault.{number, Taken}
-use Rattle.header.specs.Header.{Header, Refused as Stopped, Field, header_of, body_of}
+use Rattle.header.specs.Header.{Header, Refused as Stopped, Field, header_of}
 use Rattle.literal.specs.Literal.{Literals, literals_of}
 use Rattle.header.specs.Tag.{is_wide}
-use Rattle.loader.specs.Load.{At, Refused, Loading, refusal, going_on, and_then, field_done, field_by, of_counts, good_if, counts_told, counts_made, counts_at, read_at, reads_from, output_at, outputs_from, with_constraint, constraint_given, constraint_at, constraints_given, constraints_from}
+use Rattle.loader.specs.Load.{At, Refused, Loading, refusal, going_on, and_then, field_done, read_at, reads_from, output_at, outputs_from, with_constraint, constraint_given, constraint_at, constraints_given, constraints_from}
 use Rattle.loader.specs.way.Load.{reached, reached_by, end_place}
 use Rattle.loader.proofs.LoadLaws.{body_at}
 
@@ -104,24 +101,3 @@ module _ (s : List ℕ) (whole : Loading) (at : ℕ) (set : Set) (few : set.m �
 
       pub constraints_by : (x : Taken) → f.taken ≡ x → whole ≡ and_then (field_done at len x (with_constraint set f.made)) (constraints_from s (most_constraints - set.m))
       constraints_by x q = on ∙ ap (λ (y : Taken). and_then (field_done at len y (with_constraint set f.made)) (constraints_from s (most_constraints - set.m))) q
-
--- ---- counts that were loaded are in range
-
-module _ (s : List ℕ) (at r n : ℕ) where
-  fit : (u v len : ℕ) (b : Bool) → every (count_tests u v 0) ≡ b → field_done 0 len (good_if b 5) (of_counts u v) ≡ going_on at (of_counts r n) → (r ≤ most_reads) × (n ≤ most_outputs)
-  fit u v len true f e =
-      let k = counts_told_law u v 0 f in
-      let a : u ≡ r = ap (λ (l : Loading). l.set.r) e in
-      let b : v ≡ n = ap (λ (l : Loading). l.set.n) e in
-      (omega (arith, k.0), omega (arith, k.1))
-  fit u v len false f e = absurd (never 5 0 at (ap (λ (l : Loading). l.progress) e))
-
-  by_header : (h : Header) → field_by s 0 counts_told counts_made h ≡ going_on at (of_counts r n) → (r ≤ most_reads) × (n ≤ most_outputs)
-  by_header (Stopped number) e = absurd (never number 0 at (ap (λ (l : Loading). l.progress) e))
-  by_header (Field tag len) e =
-      let b = body_of s len in
-      fit (get_or b 0 0) (get_or b 1 0) len (every (count_tests (get_or b 0 0) (get_or b 1 0) 0)) refl e
-
-  pub counts_range : going_on at (of_counts r n) ≡ counts_at s → (r ≤ most_reads) × (n ≤ most_outputs)
-  unfolding counts_at
-  counts_range e = by_header (header_of s 1 0) (sym e)

@@ -32,11 +32,12 @@ pub struct Loaded {
     pub set: Set,
 }
 
-// How many read points and outputs there are.
+// How many read points and outputs there are: no more than a set has.
 #[derive(Clone, Copy)]
 pub struct Counts {
     pub r: usize,
     pub n: usize,
+    ghost in_range: { (r ≤ most_reads) × (n ≤ most_outputs) },
 }
 
 // The constraints, of which there are m.
@@ -63,23 +64,22 @@ fn counts_at(s: &[u8]) -> Result<(Counts, usize), Refusal>
     Ok((Counts { r, n }, front.at + 3 + front.len))
 }
 
-// r read points from `at` on. Their names are put into the list that is lent.
+// The read points from `at` on, as many as counted. Their names are put into the list that is lent.
 fn reads_at<'a>(
     s: &'a [u8],
     at: usize,
-    r: usize,
-    n: usize,
+    counts: Counts,
     names: &'a mut [[u8; NAME_PLACES]; MOST_READS],
 ) -> Result<([ReadPoint; MOST_READS], usize), Refusal>
-    requires { (r ≤ most_reads) × (names.old ≡ replicate most_reads zero_name) }
-    ensures { (reached_by result (with_reads (of_counts r n)) ≡ reads_from s.now r 0 at (of_counts r n)) × IfOk result (λ x. ReadNames names.new x.0) }
+    requires { names.old ≡ replicate most_reads zero_name }
+    ensures { (reached_by result (with_reads (of_counts counts.r counts.n)) ≡ reads_from s.now counts.r 0 at (of_counts counts.r counts.n)) × IfOk result (λ x. ReadNames names.new x.0) }
 {
     let outputs = [[0u8; NAME_PLACES]; MOST_OUTPUTS];
     let mut reads = [ReadPoint::ZERO; MOST_READS];
     let mut pasts = [false; MOST_READS];
     let mut next = at;
-    for i in 0..r {
-        let (read, behind) = read_at(s, next, n, &pasts, &*names, &outputs, i)?;
+    for i in 0..counts.r {
+        let (read, behind) = read_at(s, next, counts.n, &pasts, &*names, &outputs, i)?;
         let name = read.name;
         reads[i] = read;
         names[i] = name;
@@ -89,22 +89,20 @@ fn reads_at<'a>(
     Ok((reads, next))
 }
 
-// n outputs from `at` on, behind r read points of these names.
+// The outputs from `at` on, as many as counted, behind read points of these names.
 fn outputs_at<'a>(
     s: &'a [u8],
     at: usize,
     names: &'a [[u8; NAME_PLACES]; MOST_READS],
-    r: usize,
-    n: usize,
+    counts: Counts,
 ) -> Result<([OutputPoint; MOST_OUTPUTS], usize), Refusal>
-    requires { (r ≤ most_reads) × (n ≤ most_outputs) }
-    ensures { (reads : List ReadPoint) → ReadNames names.now reads → reached_by result (with_outputs (with_reads (of_counts r n) reads)) ≡ outputs_from s.now n 0 at (with_reads (of_counts r n) reads) }
+    ensures { (reads : List ReadPoint) → ReadNames names.now reads → reached_by result (with_outputs (with_reads (of_counts counts.r counts.n) reads)) ≡ outputs_from s.now counts.n 0 at (with_reads (of_counts counts.r counts.n) reads) }
 {
     let mut outputs = [OutputPoint::ZERO; MOST_OUTPUTS];
     let mut own = [[0u8; NAME_PLACES]; MOST_OUTPUTS];
     let mut next = at;
-    for j in 0..n {
-        let (name, behind) = output_at(s, next, names, r, &own, j)?;
+    for j in 0..counts.n {
+        let (name, behind) = output_at(s, next, names, counts.r, &own, j)?;
         outputs[j] = OutputPoint { name };
         own[j] = name;
         next = behind;
@@ -126,10 +124,9 @@ fn end_at(s: &[u8], at: usize) -> Result<usize, Refusal>
     Ok(at + 3)
 }
 
-// Constraints from `at` up to the end, for a set of r read points and n outputs.
-fn constraints_at(s: &[u8], at: usize, r: usize, n: usize) -> Result<(Constraints, usize), Refusal>
-    requires { (r ≤ most_reads) × (n ≤ most_outputs) }
-    ensures { (rest : ℕ) (reads : List ReadPoint) (outputs : List OutputPoint) → reached_by result (λ c. whole_set r n c.m rest reads outputs c.list) ≡ after_rest s.now at (rested_set r n rest reads outputs) }
+// Constraints from `at` up to the end, for a set of so many read points and outputs.
+fn constraints_at(s: &[u8], at: usize, counts: Counts) -> Result<(Constraints, usize), Refusal>
+    ensures { (rest : ℕ) (reads : List ReadPoint) (outputs : List OutputPoint) → reached_by result (λ c. whole_set counts.r counts.n c.m rest reads outputs c.list) ≡ after_rest s.now at (rested_set counts.r counts.n rest reads outputs) }
 {
     let mut list = [Constraint::ZERO; MOST_CONSTRAINTS];
     let mut next = at;
@@ -144,7 +141,7 @@ fn constraints_at(s: &[u8], at: usize, r: usize, n: usize) -> Result<(Constraint
         }
         let wide = is_wide(front.tag);
         let behind = offset + 3 + front.len;
-        match literals_of(&s[offset + 3..behind], wide, r, n) {
+        match literals_of(&s[offset + 3..behind], wide, counts.r, counts.n) {
             Ok(made) => list[m] = made,
             Err(fault) => return Err(Refusal { fault, offset }),
         }
@@ -157,15 +154,15 @@ fn constraints_at(s: &[u8], at: usize, r: usize, n: usize) -> Result<(Constraint
 fn set_of(file: &[u8]) -> Result<Set, Refusal>
     ensures { set_told result ≡ answered (load_from file.now) }
 {
-    let (Counts { r, n }, at) = counts_at(file)?;
+    let (counts, at) = counts_at(file)?;
     let mut names = [[0u8; NAME_PLACES]; MOST_READS];
-    let (reads, at) = reads_at(file, at, r, n, &mut names)?;
-    let (outputs, at) = outputs_at(file, at, &names, r, n)?;
-    let (rest, at) = rest_at(file, at, n)?;
-    let (Constraints { m, list }, _) = constraints_at(file, at, r, n)?;
+    let (reads, at) = reads_at(file, at, counts, &mut names)?;
+    let (outputs, at) = outputs_at(file, at, &names, counts)?;
+    let (rest, at) = rest_at(file, at, counts.n)?;
+    let (Constraints { m, list }, _) = constraints_at(file, at, counts)?;
     Ok(Set {
-        r,
-        n,
+        r: counts.r,
+        n: counts.n,
         m,
         rest,
         reads,

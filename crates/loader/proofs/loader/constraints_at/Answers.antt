@@ -30,13 +30,13 @@ module _ (c : In_ok-front) where
 
   so_far : (rest : ℕ) (reads : List ReadPoint) (outputs : List OutputPoint) → let l = c.loop-front in
       let a = c.args in
-      constraints_from a.s.now (suc most_constraints) a.at (rested_set a.r a.n rest reads outputs)
-      ≡ constraints_from a.s.now (suc most_constraints - l.m) c.in_ok-front.front.at (whole_set a.r a.n l.m rest reads outputs l.list)
+      constraints_from a.s.now (suc most_constraints) a.at (rested_set a.counts.r a.counts.n rest reads outputs)
+      ≡ constraints_from a.s.now (suc most_constraints - l.m) c.in_ok-front.front.at (whole_set a.counts.r a.counts.n l.m rest reads outputs l.list)
   so_far rest reads outputs =
       let l = c.loop-front in
       let a = c.args in
       l.invariant.1 rest reads outputs
-      ∙ ap (λ (x : ℕ). constraints_from a.s.now (suc most_constraints - l.m) x (whole_set a.r a.n l.m rest reads outputs l.list)) (sym (front_place a.s.now l.next 4 l.m c.in_ok-front.front c.in_ok-front.ensures))
+      ∙ ap (λ (x : ℕ). constraints_from a.s.now (suc most_constraints - l.m) x (whole_set a.counts.r a.counts.n l.m rest reads outputs l.list)) (sym (front_place a.s.now l.next 4 l.m c.in_ok-front.front c.in_ok-front.ensures))
 
 -- what the header of a constraint tells
 few : (c : Else-front-eq-TAG_END) → c.loop-front.m < most_constraints
@@ -52,9 +52,9 @@ returns-in_err-front c rest reads outputs =
     let a = c.args in
     let r = c.in_err-front.field-0.0 in
     let refused : c.from_residual.result ≡ Err r = grind arith in
-    ap (λ x. reached_by x (λ k. whole_set a.r a.n k.m rest reads outputs k.list)) refused
+    ap (λ x. reached_by x (λ k. whole_set a.counts.r a.counts.n k.m rest reads outputs k.list)) refused
     ∙ ap (refusal (number r.fault)) (stopped_place a.s.now l.next 4 l.m r c.in_err-front.ensures)
-    ∙ constraints_stopped a.s.now _ l.next (whole_set a.r a.n l.m rest reads outputs l.list) l.invariant.0 (l.invariant.1 rest reads outputs) _ (stopped_there a.s.now l.next 4 l.m r c.in_err-front.ensures)
+    ∙ constraints_stopped a.s.now _ l.next (whole_set a.counts.r a.counts.n l.m rest reads outputs l.list) l.invariant.0 (l.invariant.1 rest reads outputs) _ (stopped_there a.s.now l.next 4 l.m r c.in_err-front.ensures)
 
 pub end_at-requires : goal.end_at-requires
 end_at-requires c = omega (arith, whole (goal.at.end_at-requires c).In_ok-front)
@@ -65,9 +65,9 @@ returns-in_err-end c rest reads outputs =
     let a = c.args in
     let f = c.in_ok-front.front in
     let p = (goal.at.returns-in_err-end c).In_ok-front in
-    let s = whole_set a.r a.n l.m rest reads outputs l.list in
+    let s = whole_set a.counts.r a.counts.n l.m rest reads outputs l.list in
     let refused : c.from_residual-in_err-end.result ≡ Err c.in_err-end.field-0.0 = grind arith in
-    ap (λ x. reached_by x (λ k. whole_set a.r a.n k.m rest reads outputs k.list)) refused ∙ ap (λ p. reached p s) c.in_err-end.ensures
+    ap (λ x. reached_by x (λ k. whole_set a.counts.r a.counts.n k.m rest reads outputs k.list)) refused ∙ ap (λ p. reached p s) c.in_err-end.ensures
     ∙ constraints_end a.s.now _ f.at s l.invariant.0 (so_far p rest reads outputs) _ _ (header p) c.if-front-eq-TAG_END.true
 
 pub returns-then-front-eq-TAG_END : goal.returns-then-front-eq-TAG_END
@@ -76,7 +76,7 @@ returns-then-front-eq-TAG_END c rest reads outputs =
     let a = c.args in
     let f = c.in_ok-front.front in
     let p = (goal.at.returns-then-front-eq-TAG_END c).In_ok-front in
-    let s = whole_set a.r a.n l.m rest reads outputs l.list in
+    let s = whole_set a.counts.r a.counts.n l.m rest reads outputs l.list in
     ap (λ p. reached p s) c.in_ok-end.ensures
     ∙ constraints_end a.s.now _ f.at s l.invariant.0 (so_far p rest reads outputs) _ _ (header p) c.if-front-eq-TAG_END.true
 
@@ -100,9 +100,9 @@ returns-in-Err c rest reads outputs =
     let l = c.loop-front in
     let a = c.args in
     let p = (goal.at.returns-in-Err c).In_ok-front in
-    let s = whole_set a.r a.n l.m rest reads outputs l.list in
+    let s = whole_set a.counts.r a.counts.n l.m rest reads outputs l.list in
     sym (constraints_by a.s.now _ c.in_ok-front.front.at s l.invariant.0 (so_far p rest reads outputs) _ _ (header p) c.if-front-eq-TAG_END.false c.is_wide-wide.result c.is_wide-wide.ensures
-    (literals_told (Err c.in-Err.fault)) c.requires c.in-Err.ensures _ refl)
+    (literals_told (Err c.in-Err.fault)) c.args.counts.in_range c.in-Err.ensures _ refl)
 
 pub loop-front-preserved : goal.loop-front-preserved
 loop-front-preserved c =
@@ -112,9 +112,9 @@ loop-front-preserved c =
     let p = (goal.at.loop-front-preserved c).In_ok-front in (
       omega (arith, few (goal.at.loop-front-preserved c).Else-front-eq-TAG_END),
       λ rest reads outputs.
-          let s = whole_set a.r a.n l.m rest reads outputs l.list in
+          let s = whole_set a.counts.r a.counts.n l.m rest reads outputs l.list in
           let left : most_constraints - l.m ≡ suc most_constraints - (l.m + 1) = omega arith in
           constraints_by a.s.now _ f.at s l.invariant.0 (so_far p rest reads outputs) _ _ (header p) c.if-front-eq-TAG_END.false c.is_wide-wide.result c.is_wide-wide.ensures
-          (literals_told (Ok c.in-Ok.made)) c.requires c.in-Ok.ensures _ refl
+          (literals_told (Ok c.in-Ok.made)) c.args.counts.in_range c.in-Ok.ensures _ refl
           ∙ ap (λ (x : ℕ). constraints_from a.s.now x (f.at + 3 + f.len) (with_constraint s c.in-Ok.made)) left,
     )

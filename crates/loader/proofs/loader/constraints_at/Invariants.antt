@@ -14,7 +14,7 @@ abbrev pub invariant-loop-front : goal.invariant-loop-front
 invariant-loop-front l =
     (l.m ≤ most_constraints)
     × ((rest : ℕ) (reads : List ReadPoint) (outputs : List OutputPoint)
-    → constraints_from l.s (suc most_constraints) l.at (rested_set l.r l.n rest reads outputs) ≡ constraints_from l.s (suc most_constraints - l.m) l.next (whole_set l.r l.n l.m rest reads outputs l.list))
+    → constraints_from l.s (suc most_constraints) l.at (rested_set l.counts.r l.counts.n rest reads outputs) ≡ constraints_from l.s (suc most_constraints - l.m) l.next (whole_set l.counts.r l.counts.n l.m rest reads outputs l.list))
 
 abbrev pub decreases-loop-front : goal.decreases-loop-front
 decreases-loop-front l = suc most_constraints - l.m

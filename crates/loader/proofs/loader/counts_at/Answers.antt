@@ -14,6 +14,7 @@ use Rattle.loader.specs.Load.{refusal, going_on, of_counts, counts_at}
 use Rattle.loader.specs.way.Load.{reached_by}
 use Rattle.header.proofs.HeaderLaws.{counts_length, front_place, front_there, front_within, stopped_place, stopped_there}
 use Rattle.loader.proofs.LoadLaws.{counts_stopped, counts_bad, counts_good}
+use Rattle.scan.proofs.ShapeLaws.{counts_told_law}
 use Rattle.loader.proofs.loader.counts_at.Goals as goal
 use Rattle.loader.proofs.loader.counts_at.Goals.{In_ok-front}
 
@@ -68,6 +69,11 @@ pub returns-then-not-are_counts_ok : goal.returns-then-not-are_counts_ok
 returns-then-not-are_counts_ok c =
     let f = (goal.at.returns-then-not-are_counts_ok c).In_ok-front in
     bad c.args.s.now _ c.in_ok-front.front.at _ (place f) (two f) (here f) (sym c.are_counts_ok.ensures ∙ c.if-not-are_counts_ok.true)
+
+pub invariant_of-result : goal.invariant_of-result
+invariant_of-result c =
+    let k = counts_told_law _ _ 0 (sym c.are_counts_ok.ensures ∙ c.if-not-are_counts_ok.false) in
+    record { in_range = (omega (arith, k.0), omega (arith, k.1)) }
 
 pub returns : goal.returns
 returns c =

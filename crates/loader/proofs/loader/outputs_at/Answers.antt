@@ -19,16 +19,16 @@ use Rattle.loader.proofs.loader.outputs_at.Goals.{After-output_at}
 -- where the step stands in the loop, and what it brings the load to
 module _ (c : After-output_at) where
   below : c.loop-j.j < most_outputs
-  below = omega (arith, c.loop-j-test.true, c.requires.1)
+  below = omega (arith, c.loop-j-test.true, c.args.counts.in_range.1)
 
   stepped : (reads : List ReadPoint) → let l = c.loop-j in
-      let so_far = points_set c.args.r c.args.n reads l.outputs in
+      let so_far = points_set c.args.counts.r c.args.counts.n reads l.outputs in
       ReadNames c.args.names.now reads → output_at c.args.s.now l.next so_far l.j ≡ reached_by c.output_at.result (with_output so_far l.j)
   stepped reads named =
       let l = c.loop-j in
       let a = c.args in
-      output_stepped a.s.now l.next (points_set a.r a.n reads l.outputs) a.names.now l.own l.j c.output_at.result
-      named l.invariant.0.named c.requires.0 (omega (arith, below)) c.output_at.ensures
+      output_stepped a.s.now l.next (points_set a.counts.r a.counts.n reads l.outputs) a.names.now l.own l.j c.output_at.result
+      named l.invariant.0.named c.args.counts.in_range.0 (omega (arith, below)) c.output_at.ensures
 
 pub loop-j-init : goal.loop-j-init
 unfolding zero_set
@@ -40,7 +40,7 @@ returns-in_err-name c reads named =
     let s = c.args.s.now in
     let r = c.in_err-name.field-0.0 in
     let refused : c.from_residual.result ≡ Err r = grind arith in
-    ap (λ x. reached_by x (with_outputs (with_reads (of_counts c.args.r c.args.n) reads))) refused
+    ap (λ x. reached_by x (with_outputs (with_reads (of_counts c.args.counts.r c.args.counts.n) reads))) refused
     ∙ row_stays (output_at s) (outputs_from s) (output_row s) _ _ l.j l.next _ (l.invariant.1 reads named) c.loop-j-test.true _ c.output_at.result (stepped (goal.at.returns-in_err-name c).After-output_at reads named) r c.in_err-name.was
 
 pub loop-j-preserved : goal.loop-j-preserved

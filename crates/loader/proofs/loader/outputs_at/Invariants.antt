@@ -14,4 +14,4 @@ use Rattle.loader.proofs.loader.outputs_at.Given as goal
 abbrev pub invariant-loop-j : goal.invariant-loop-j
 invariant-loop-j l =
     OutputsKnown l.own l.outputs
-    × ((reads : List ReadPoint) → ReadNames l.names reads → outputs_from l.s l.n 0 l.at (with_reads (of_counts l.r l.n) reads) ≡ outputs_from l.s (l.n - l.j) l.j l.next (points_set l.r l.n reads l.outputs))
+    × ((reads : List ReadPoint) → ReadNames l.names reads → outputs_from l.s l.counts.n 0 l.at (with_reads (of_counts l.counts.r l.counts.n) reads) ≡ outputs_from l.s (l.counts.n - l.j) l.j l.next (points_set l.counts.r l.counts.n reads l.outputs))

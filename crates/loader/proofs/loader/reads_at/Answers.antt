@@ -18,21 +18,21 @@ use Rattle.loader.proofs.loader.reads_at.Goals.{After-read_at}
 -- where the step stands in the loop, and what it brings the load to
 module _ (c : After-read_at) where
   below : c.loop-i.i < most_reads
-  below = omega (arith, c.loop-i-test.true, c.requires.0)
+  below = omega (arith, c.loop-i-test.true, c.args.counts.in_range.0)
 
   stepped : let l = c.loop-i in
-      let so_far = with_reads (of_counts c.args.r c.args.n) l.reads in
+      let so_far = with_reads (of_counts c.args.counts.r c.args.counts.n) l.reads in
       read_at c.args.s.now l.next so_far l.i ≡ reached_by c.read_at.result (with_read so_far l.i)
   stepped =
       let l = c.loop-i in
       let a = c.args in
       let k = l.invariant.0 in
-      read_stepped a.s.now l.next (with_reads (of_counts a.r a.n) l.reads) l.names (replicate most_outputs zero_name) l.pasts l.i c.read_at.result
+      read_stepped a.s.now l.next (with_reads (of_counts a.counts.r a.counts.n) l.reads) l.names (replicate most_outputs zero_name) l.pasts l.i c.read_at.result
       k.named k.past refl (omega (arith, below)) c.read_at.ensures
 
 pub loop-i-init : goal.loop-i-init
 unfolding zero_set
-loop-i-init c = let n = c.requires.1 in (subst (λ names. ReadsKnown names _ _) (sym n) reads_none, rw sub-zero)
+loop-i-init c = let n = c.requires in (subst (λ names. ReadsKnown names _ _) (sym n) reads_none, rw sub-zero)
 
 pub returns-in_err-read : goal.returns-in_err-read
 returns-in_err-read c =
@@ -40,7 +40,7 @@ returns-in_err-read c =
     let s = c.args.s.now in
     let r = c.in_err-read.field-0.0 in
     let refused : c.from_residual.result ≡ Err r = grind arith in (
-      ap (λ x. reached_by x (with_reads (of_counts c.args.r c.args.n))) refused
+      ap (λ x. reached_by x (with_reads (of_counts c.args.counts.r c.args.counts.n))) refused
           ∙ row_stays (read_at s) (reads_from s) (read_row s) _ _ l.i l.next _ l.invariant.1 c.loop-i-test.true _ c.read_at.result (stepped (goal.at.returns-in_err-read c).After-read_at) r c.in_err-read.was,
       subst (λ x. IfOk x (λ y. ReadNames l.names y.0)) (sym refused) tt,
     )

@@ -9,4 +9,4 @@ use Rattle.loader.proofs.loader.reads_at.Given as goal
 
 abbrev pub invariant-loop-i : goal.invariant-loop-i
 invariant-loop-i l =
-    ReadsKnown l.names l.pasts l.reads × (reads_from l.s l.r 0 l.at (of_counts l.r l.n) ≡ reads_from l.s (l.r - l.i) l.i l.next (with_reads (of_counts l.r l.n) l.reads))
+    ReadsKnown l.names l.pasts l.reads × (reads_from l.s l.counts.r 0 l.at (of_counts l.counts.r l.counts.n) ≡ reads_from l.s (l.counts.r - l.i) l.i l.next (with_reads (of_counts l.counts.r l.counts.n) l.reads))
