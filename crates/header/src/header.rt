@@ -11,7 +11,7 @@ use scan::MOST_CONSTRAINTS;
 // Tags are below this.
 const TAG_BOUND: usize = 8;
 
-// By tag: the shortest body, the longest body, and what a body's length is a multiple of.
+// By tag: the shortest body, the longest body, and what a body's length is a multiple of. A list for each, as the definitions have them: rows of a struct would be no plainer.
 const SHORTEST: [u8; TAG_BOUND] = [0, 2, 3, 1, 2, 0, 2, 3];
 
 const LONGEST: [u8; TAG_BOUND] = [0, 2, 10, 8, 48, 0, 2, 72];

@@ -9,7 +9,7 @@ use choice::both;
 use header::{Fault, literal_size, names_high};
 use scan::{Constraint, MOST_OUTPUTS, MOST_READS};
 
-// A literal as its bytes say it. clear: the bits that have to be zero are.
+// A literal as its bytes say it. clear: the bits that have to be zero are. No Option: the definitions take what the bytes say first, and test it, `clear` with it, afterwards.
 #[derive(Clone, Copy)]
 pub struct Said {
     pub clear: bool,

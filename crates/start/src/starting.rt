@@ -8,6 +8,7 @@ use scan::{Set, State, zero_set};
 use verdict::{Verdict, judge};
 
 // The verdict, and the state: with every field zero where the set is rejected.
+// No Result: the theorem `refuses` of promise speaks of the state beside a rejection.
 #[derive(Clone, Copy)]
 pub struct Started {
     pub verdict: Verdict,
