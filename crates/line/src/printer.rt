@@ -1,4 +1,4 @@
-// The line is made as a draft first, and then put into the lent buffer.
+// The line is made as a draft first, and then put into the lent buffer. No Display: a line is the bytes that a definition says.
 ghost use Rattle.std.specs.Prelude.{◌≡◌, ◌≤◌, [], ◌∷◌, ◌++◌, length};
 ghost use Rattle.line.specs.Line.{line_bytes, line_answer, buffer_after};
 ghost use Rattle.line.specs.way.Draft.{numbered};

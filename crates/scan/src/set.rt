@@ -68,7 +68,8 @@ impl Constraint {
     };
 }
 
-// r read points, n outputs and m constraints; the rest word, whose bit k says that output k counts as on before the first scan. The places beyond the
+// Arrays with counts beside them, since a box has no heap: r read points, n outputs and m constraints; the rest word, whose bit k says that output k counts as on
+// before the first scan. The places beyond the
 // counts are zero.
 #[derive(Clone, Copy)]
 pub struct Set {
