@@ -37,19 +37,16 @@ pub fn behind<'a>(bytes: &'a [u8], n: usize) -> &'a [u8] {
     }
 }
 
-fn two(high: u8, low: u8) -> u16 {
-    high as u16 * 256 + low as u16
-}
-
-fn four(high: u16, low: u16) -> u32 {
-    high as u32 * 65536 + low as u32
-}
-
 // The number in the first two bytes, and in the first four.
 pub fn two_of(bytes: &[u8]) -> u16 {
-    two(byte(bytes, 0), byte(bytes, 1))
+    u16::from_be_bytes([byte(bytes, 0), byte(bytes, 1)])
 }
 
 pub fn four_of(bytes: &[u8]) -> u32 {
-    four(two_of(bytes), two_of(behind(bytes, 2)))
+    u32::from_be_bytes([
+        byte(bytes, 0),
+        byte(bytes, 1),
+        byte(bytes, 2),
+        byte(bytes, 3),
+    ])
 }

@@ -149,10 +149,10 @@ module _ (s : List ℕ) (at : ℕ) (base : Set) where
       go (Field tag len) = let f = output_of base j (body_of (drop at s) len) in by_body at len f.taken f.name (with_output base j)
 
 -- the rest word's field, or none, brings a load as far as its step does
-pub rest_stepped : (s : List ℕ) (at r n : ℕ) (reads : List ReadPoint) (outputs : List OutputPoint) (x : Result (ℕ × ℕ) Refusal) → numbered x ≡ rest_place s at n
-    → reached_by x (λ rest. rested_set r n rest reads outputs) ≡ rest_at s at (points_set r n reads outputs)
+pub rest_stepped : (s : List ℕ) (at r n : ℕ) (reads : List ReadPoint) (outputs : List OutputPoint) (f : Step ℕ) → f ≡ rest_place s at n
+    → brought f (λ rest. rested_set r n rest reads outputs) ≡ rest_at s at (points_set r n reads outputs)
 unfolding rest_place rest_at zero_set
-rest_stepped s at r n reads outputs x e = ap (λ (g : Step ℕ). brought g made) e ∙ go (eqb (get_or (drop at s) 0 0) 6)
+rest_stepped s at r n reads outputs f e = ap (λ (g : Step ℕ). brought g made) e ∙ go (eqb (get_or (drop at s) 0 0) 6)
   where
     made : ℕ → Set
     made rest = rested_set r n rest reads outputs

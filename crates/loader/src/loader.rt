@@ -17,7 +17,7 @@ use scan::{
 };
 use shape::{are_counts_ok, is_sensor};
 
-// A file was loaded; or the number of the refusal and the offset of the field's first byte.
+// A file was loaded; or the number of the refusal and the offset of the field's first byte. No Result: the theorem `refused_zero` names its refusal.
 #[derive(Clone, Copy, Debug, PartialEq, Eq)]
 pub enum LoadAnswer {
     Loaded,

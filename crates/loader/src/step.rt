@@ -32,7 +32,7 @@ pub fn read_at<'a>(
     }
 }
 
-// Output j at `at`, behind r read points.
+// Output j at `at`, behind r read points. One function for both would take the tag, and what reads the body, from its caller: no plainer.
 pub fn output_at<'a>(
     s: &'a [u8],
     at: usize,

@@ -10,7 +10,7 @@ use choice::both;
 use scan::{Holds, Set, State, Walk, columns_of, start_vector};
 use shape::well_formed;
 
-// A scan's answer: the vector sent and the passes made, or why it is refused.
+// A scan's answer: the vector sent and the passes made, or why it is refused. No Result: statements of promise (`SendsDue`, `EachSays`) are about this type.
 #[derive(Clone, Copy)]
 pub enum ScanAnswer {
     Sent { vector: u16, passes: u16 },

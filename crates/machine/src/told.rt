@@ -1,4 +1,4 @@
-// Document 01's number of a scan's answer. A function, and no From: it is named so for users, and C takes the number.
+// Document 01's number of a scan's answer. A function, and no From: users call it by this name, and C takes the number.
 ghost use Rattle.std.specs.Prelude.{◌≡◌, get_or};
 ghost use Rattle.machine.specs.Told.{scan_told};
 

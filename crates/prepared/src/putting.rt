@@ -99,7 +99,7 @@ fn put_reads(out: &mut [u8; PREPARED_BYTES], reads: [ReadPoint; MOST_READS])
     }
 }
 
-// The outputs, behind the read points.
+// The outputs, behind the read points. One function for the three kinds would take a byte of each, and its place, from its caller: no plainer.
 fn put_outputs(out: &mut [u8; PREPARED_BYTES], outputs: [OutputPoint; MOST_OUTPUTS])
     ensures { (s : Set) → s.outputs ≡ outputs → out.old ≡ up_to s 205 → out.new ≡ up_to s 301 }
 {

@@ -16,7 +16,7 @@ pub struct Lows {
     pub of: [u64; WORDS],
 }
 
-// `active_at`, `active_low` and `active_high` are three loops: one with a closure for the part of the read points would have a contract that says of every function that
+// `active_at`, `active_low` and `active_high` are three loops, which is plainer: one with a closure for the part of the read points would have a contract that says of every function that
 // agrees with the closure what each of these says in a line.
 impl Columns {
     // The constraints whose literals of read points 0 to 2 are true at the word w.

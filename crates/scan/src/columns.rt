@@ -7,7 +7,7 @@ use super::set::{MOST_CONSTRAINTS, Set};
 use choice::pick;
 
 // How many constraints there are; of each the read points named plain, all the read points named, the outputs named plain and those named negated; and which
-// constraints are simple, bit i being constraint i. The places beyond the constraints are zero. One array for each kind, for speed: a loop takes many places at once.
+// constraints are simple, bit i being constraint i. The places beyond the constraints are zero. An array for each kind is no less plain than one of structs, and a loop takes many places at once.
 #[derive(Clone, Copy)]
 pub struct Columns {
     pub m: usize,

@@ -9,7 +9,7 @@ ghost use Rattle.scan.specs.way.Entries.{entries_by};
 use super::columns::Columns;
 use super::set::MOST_CONSTRAINTS;
 
-// The entries below count: the outputs named plain, and all the outputs named. Two arrays, for speed: a loop takes many entries at once.
+// The entries below count: the outputs named plain, and all the outputs named. Two arrays are no less plain than one of structs, and a loop takes many entries at once.
 // They are filled up to a multiple of sixteen with entries that are never true, so that a loop over them has no rest.
 #[derive(Clone, Copy)]
 pub struct Entries {

@@ -68,9 +68,8 @@ impl Constraint {
     };
 }
 
-// Arrays with counts beside them, since a box has no heap: r read points, n outputs and m constraints; the rest word, whose bit k says that output k counts as on
-// before the first scan. The places beyond the
-// counts are zero.
+// r read points, n outputs and m constraints; the rest word, whose bit k says that output k counts as on before the first scan. The places beyond the
+// counts are zero. Arrays with counts beside them: a controller has no heap (a rule of the project).
 #[derive(Clone, Copy)]
 pub struct Set {
     pub r: usize,

@@ -1,4 +1,4 @@
-// The number of each answer. A function, and no From: it is named so for users, and C takes the number.
+// The number of each answer. A function, and no From: users call it by this name.
 ghost use Rattle.std.specs.Prelude.{◌≡◌, get_or};
 ghost use Rattle.text.specs.Told.{text_told};
 

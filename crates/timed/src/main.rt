@@ -50,46 +50,30 @@ const SCAN_BYTES: usize = 6;
 // Where a checksum begins: not at 0, which answers of 0 would leave as it is however many they are.
 const SUM_BEGIN: u32 = 1;
 
-fn two(high: u8, low: u8) -> u16 {
-    high as u16 * 256 + low as u16
-}
-
-fn four(a: u8, b: u8, c: u8, d: u8) -> u32 {
-    two(a, b) as u32 * 65536 + two(c, d) as u32
-}
-
 // The checksum with one number more.
-fn mix(sum: u32, x: u32) -> u32 {
-    ((sum as u64 * 31 + x as u64) % 4294967291) as u32
-}
-
-fn mix8(sum: u32, x: u8) -> u32 {
-    mix(sum, x as u32)
-}
-
-fn mix16(sum: u32, x: u16) -> u32 {
-    mix(sum, x as u32)
+fn mix<T: Into<u32>>(sum: u32, x: T) -> u32 {
+    ((sum as u64 * 31 + x.into() as u64) % 4294967291) as u32
 }
 
 fn mix_verdict(sum: u32, v: Verdict) -> u32 {
-    let told = mix8(sum, verdict::number_of(v));
+    let told = mix(sum, verdict::number_of(v));
     match v {
         Verdict::NoVector { word } => mix(told, word),
-        Verdict::Clash { word, output } => mix16(mix(told, word), output),
-        Verdict::NoEnd { word, request } => mix16(mix(told, word), request),
+        Verdict::Clash { word, output } => mix(mix(told, word), output),
+        Verdict::NoEnd { word, request } => mix(mix(told, word), request),
         _ => told,
     }
 }
 
 fn mix_scan(sum: u32, answer: ScanAnswer) -> u32 {
     match answer {
-        ScanAnswer::Sent { vector, passes } => mix16(mix16(sum, vector), passes),
-        _ => mix8(sum, machine::number_of(answer)),
+        ScanAnswer::Sent { vector, passes } => mix(mix(sum, vector), passes),
+        _ => mix(sum, machine::number_of(answer)),
     }
 }
 
 fn mix_written(sum: u32, written: Result<usize, PutError>) -> u32 {
-    mix8(sum, writer::number_of(written))
+    mix(sum, writer::number_of(written))
 }
 
 // The checksum with the rest word and a place of each array of the set: other places at each turn, so that the whole set has to be made.
@@ -102,9 +86,9 @@ fn mix_set(sum: u32, set: Set, turn: u32) -> u32 {
     let a = read.name;
     let b = output.name;
     let reads = mix(mix(sum, c.read_plain), c.read_negated);
-    let outs = mix16(mix16(reads, c.out_plain), c.out_negated);
-    let rested = mix16(outs, set.rest);
-    mix(rested, four(a[0], a[7], b[0], c.ranks[k]))
+    let outs = mix(mix(reads, c.out_plain), c.out_negated);
+    let rested = mix(outs, set.rest);
+    mix(rested, u32::from_be_bytes([a[0], a[7], b[0], c.ranks[k]]))
 }
 
 // The checksum of so many turns. A turn is handed the checksum and how many turns are left with it, and returns the checksum with its answer.
@@ -125,7 +109,11 @@ fn scan_often(start: State, times: u32, calls: &[u8]) -> u32 {
         let mut sum = before;
         for call in calls.chunks_exact(SCAN_BYTES) {
             if let [a, b, c, d, high, low] = *call {
-                let scanned = machine::scan(state, four(a, b, c, d), two(high, low));
+                let scanned = machine::scan(
+                    state,
+                    u32::from_be_bytes([a, b, c, d]),
+                    u16::from_be_bytes([high, low]),
+                );
                 sum = mix_scan(sum, scanned.answer);
                 state = scanned.state;
             }
@@ -146,7 +134,7 @@ fn scan_set<R: Read>(input: &mut R, set: Set, times: u32, scratch: &mut [u8]) ->
     let mut head = [0u8; 2];
     let mut calls = bytes_io::zeros::<4096>();
     bytes_io::read_full(&mut *input, &mut head);
-    let len = two(head[0], head[1]) as usize * SCAN_BYTES;
+    let len = u16::from_be_bytes([head[0], head[1]]) as usize * SCAN_BYTES;
     fill(input, &mut calls, len);
     let started = start::start(set, scratch);
     let state = started.state;
@@ -162,13 +150,13 @@ fn mix_loaded(sum: u32, file: &[u8], turn: u32) -> u32 {
     let set = loaded.set;
     match answer {
         LoadAnswer::Loaded => mix_set(sum, set, turn),
-        LoadAnswer::Refused { number, offset: _ } => mix8(sum, number),
+        LoadAnswer::Refused { number, offset: _ } => mix(sum, number),
     }
 }
 
 fn mix_byte(sum: u32, buf: &[u8], at: usize) -> u32 {
     if at < buf.len() {
-        mix8(sum, buf[at])
+        mix(sum, buf[at])
     } else {
         sum
     }
@@ -187,7 +175,7 @@ fn write_often(set: Set, times: u32) -> u32 {
 fn text_often(set: Set, times: u32) -> u32 {
     let mut buf = bytes_io::zeros::<65536>();
     sum_often(times, |sum, left| {
-        let told = mix8(sum, text::number_of(text::put_text(set, &mut buf)));
+        let told = mix(sum, text::number_of(text::put_text(set, &mut buf)));
         mix_byte(told, &buf, (left % 4096) as usize)
     })
 }
@@ -221,8 +209,8 @@ fn main(rt: HostRuntime) -> io::Result<()> {
     let mut head = [0u8; 7];
     let mut file = [0u8; MOST_FILE];
     bytes_io::read_full(&mut input, &mut head);
-    let times = four(head[1], head[2], head[3], head[4]);
-    let len = two(head[5], head[6]) as usize;
+    let times = u32::from_be_bytes([head[1], head[2], head[3], head[4]]);
+    let len = u16::from_be_bytes([head[5], head[6]]) as usize;
     fill(&mut input, &mut file, len);
     if len <= MOST_FILE {
         let sum = match Operation::try_from(head[0]) {

@@ -15,6 +15,7 @@ use shape::well_formed;
 
 // Accepted, or why not: the first read word without a safe vector, with the lowest output that simple constraints force both ways there, if there is one; or, where
 // every word has a safe vector, the first word with a request whose walk never is safe, and its first such request.
+// No Result: `judge_unnamed` and `judge_by_bytes` of promise give one of this type.
 #[derive(Clone, Copy)]
 pub enum Verdict {
     Accepted,

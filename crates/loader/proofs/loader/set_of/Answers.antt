@@ -4,7 +4,7 @@ use native.Mathlib.Omega.{arith}
 use Rattle.std.specs.Prelude.{Err}
 use Rattle.scan.specs.Set.{with_reads, with_outputs, zero_set}
 use Rattle.loader.specs.Load.{answered, of_counts, counts_at, reads_from, outputs_from, rest_at, after_counts, after_reads, after_outputs, after_rest, load_from}
-use Rattle.loader.specs.way.Load.{reached_by, points_set, rested_set, whole_set, set_told}
+use Rattle.loader.specs.way.Load.{numbered, reached_by, points_set, rested_set, whole_set, set_told}
 use Rattle.loader.proofs.LoadTurns.{stays, goes}
 use Rattle.loader.proofs.LoadWayLaws.{rest_stepped}
 use Rattle.loader.proofs.loader.set_of.Goals as goal
@@ -45,7 +45,7 @@ loaded_rest c =
     let reads = c.in_ok-reads.reads in
     let outputs = c.in_ok-outputs.outputs in
     goes (rest_at s c.in_ok-outputs.at (points_set k.r k.n reads outputs)) (after_rest s) (λ rest. rested_set k.r k.n rest reads outputs) c.rest_at.result
-    (rest_stepped s c.in_ok-outputs.at k.r k.n reads outputs c.rest_at.result c.rest_at.ensures) _ c.in_ok-rest.was
+    (rest_stepped s c.in_ok-outputs.at k.r k.n reads outputs (numbered c.rest_at.result) c.rest_at.ensures) _ c.in_ok-rest.was
 
 pub returns-in_err-counts : goal.returns-in_err-counts
 unfolding load_from
@@ -95,7 +95,7 @@ returns-in_err-rest c =
     ap set_told refused
     ∙ sym (ap answered (counted p.In_ok-counts ∙ loaded_reads p.In_ok-reads ∙ loaded_outputs p.In_ok-outputs
     ∙ stays (rest_at s c.in_ok-outputs.at (points_set k.r k.n reads outputs)) (after_rest s) (λ rest. rested_set k.r k.n rest reads outputs) c.rest_at.result
-    (rest_stepped s c.in_ok-outputs.at k.r k.n reads outputs c.rest_at.result c.rest_at.ensures) r c.in_err-rest.was))
+    (rest_stepped s c.in_ok-outputs.at k.r k.n reads outputs (numbered c.rest_at.result) c.rest_at.ensures) r c.in_err-rest.was))
 
 pub returns-in_err-m : goal.returns-in_err-m
 returns-in_err-m c =
