@@ -1,0 +1,86 @@
+// A lent buffer and the place in it that the next byte goes to. Bytes are put as far as it goes, and the place is counted on in any case.
+ghost use Rattle.std.specs.Prelude.{◌≡◌, [], ◌∷◌, get_or};
+ghost use Rattle.scan.specs.Names.{name_bytes};
+ghost use Rattle.decimal.specs.Decimal.{decimal};
+ghost use Rattle.text.specs.Text.{spaced_words};
+ghost use Rattle.text.specs.way.Place.{next};
+ghost use Rattle.text.specs.way.Page.{Put};
+
+use decimal::digits_of;
+use scan::NAME_PLACES;
+use shape::name_length;
+
+// No text has more bytes.
+const TEXT_END: usize = 65536;
+
+// The place behind a place.
+fn next_place(at: usize) -> usize
+    ensures { result ≡ next at }
+{
+    if at < TEXT_END { at + 1 } else { at }
+}
+
+// The buffer, and the place.
+#[derive(Drop)]
+pub struct Page<'a> {
+    pub buf: &'a mut [u8],
+    pub at: usize,
+}
+
+impl<'a> Page<'a> {
+    // One byte.
+    pub fn put_byte(&mut self, b: u8)
+        ensures { Put self.old (b ∷ []) self.new }
+    {
+        let at = self.at;
+        self.at = next_place(at);
+        if at < self.buf.len() {
+            self.buf[at] = b;
+        }
+    }
+
+    // Bytes.
+    pub fn put_bytes(&mut self, bytes: &[u8])
+        ensures { Put self.old bytes.now self.new }
+    {
+        for b in bytes {
+            self.put_byte(*b);
+        }
+    }
+
+    // A word, with a space before it.
+    pub fn put_word(&mut self, word: &[u8])
+        ensures { Put self.old (spaced_words (word.now ∷ [])) self.new }
+    {
+        self.put_byte(0x20);
+        self.put_bytes(word);
+    }
+
+    // A name.
+    pub fn put_name(&mut self, name: [u8; NAME_PLACES])
+        ensures { Put self.old (spaced_words (name_bytes name ∷ [])) self.new }
+    {
+        let len = name_length(name);
+        self.put_word(&name[0..len]);
+    }
+
+    // Name k of a list of names; none where the list is shorter.
+    pub fn put_name_at(&mut self, names: &[[u8; NAME_PLACES]], k: usize)
+        ensures { Put self.old (spaced_words (name_bytes (get_or names.now k []) ∷ [])) self.new }
+    {
+        if k < names.len() {
+            let name = names[k];
+            self.put_name(name);
+        } else {
+            self.put_byte(0x20);
+        }
+    }
+
+    // A number.
+    pub fn put_number(&mut self, n: u8)
+        ensures { Put self.old (spaced_words (decimal n ∷ [])) self.new }
+    {
+        let digits = digits_of(n as usize);
+        self.put_word(digits.as_slice());
+    }
+}
