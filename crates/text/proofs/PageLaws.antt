@@ -2,13 +2,12 @@
 use mathlib.Core.Path.{◌≡◌, refl, sym, ap, ◌∙◌, subst}
 use mathlib.Core.List.{List, [], ◌∷◌, ◌++◌}
 use Prim.Native.Nat.{ℕ, ◌+◌, ◌<◌}
-use lib.ListN.{set}
 use Rattle.words.proofs.LoopTurns.{Grows}
 use Rattle.text.specs.Text.{spaced_words}
 use Rattle.text.specs.declared.page.Page.{Page}
 use Rattle.text.specs.way.Page.{Filled, Put}
-use Rattle.text.specs.way.Place.{next, Within, line_bytes}
-use Rattle.text.proofs.PlaceLaws.{within_none, within_one, within_then, word_put, words_none, words_then}
+use Rattle.text.specs.way.Place.{Within, line_bytes}
+use Rattle.text.proofs.PlaceLaws.{within_none, within_then, word_put, words_none, words_then}
 
 -- ---- bytes behind bytes
 
@@ -17,11 +16,10 @@ pub put_none : (page : Page) → Put page [] page
 unfolding Filled
 put_none page = (refl, within_none page.buf.now page.at)
 
--- one byte
-pub put_one : (page : Page) (b : ℕ) (after : Page) → after.buf.ghost_name ≡ page.buf.ghost_name → after.buf.now ≡ set page.buf.now page.at b
-    → after.at ≡ next page.at → Put page (b ∷ []) after
+-- bytes put at the place of the same buffer
+pub put_made : (page after : Page) (x : List ℕ) → after.buf.ghost_name ≡ page.buf.ghost_name → Within page.buf.now page.at x after.buf.now after.at → Put page x after
 unfolding Filled
-put_one page b after g e p = (g, within_one page.buf.now page.at b after.buf.now after.at e p)
+put_made page after x g p = (g, p)
 
 -- bytes put behind bytes
 pub put_then : (page mid after : Page) (x y : List ℕ) → Put page x mid → Put mid y after → Put page (x ++ y) after
@@ -75,6 +73,6 @@ module _ {whole more : ℕ → List ℕ} {n : ℕ} (g : Grows whole more n) wher
   put_all page after k e p = put_same page after (whole k) (whole n) (ap whole e) p
 
 -- a page's buffer and place at the end
-pub put_within : (page after : Page) (x y : List ℕ) (buf : List ℕ) → x ≡ y → buf ≡ after.buf.now → Put page x after → Within page.buf.now page.at y buf after.at
+pub page_ends : (page after : Page) (x y : List ℕ) (buf : List ℕ) → x ≡ y → buf ≡ after.buf.now → Put page x after → Within page.buf.now page.at y buf after.at
 unfolding Filled
-put_within page after x y buf e b p = subst (λ (l : List ℕ). Within page.buf.now page.at y l after.at) (sym b) (put_same page after x y e p).1
+page_ends page after x y buf e b p = subst (λ (l : List ℕ). Within page.buf.now page.at y l after.at) (sym b) (put_same page after x y e p).1

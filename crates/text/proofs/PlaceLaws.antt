@@ -105,6 +105,12 @@ put_is buf at (b ∷ x) h g =
 pub bytes_grow : (bytes : List ℕ) → Grows (λ k. take k bytes) (λ k. get_or bytes k 0 ∷ []) (length bytes)
 bytes_grow bytes = record { none = refl; one = λ k h. ap (λ (j : ℕ). take j bytes) (add-one k) ∙ take-suc bytes k 0 h }
 
+-- a part behind the first k
+pub within_more : {whole more : ℕ → List ℕ} {n : ℕ} (g : Grows whole more n) (buf : List ℕ) (at : ℕ) (mid : List ℕ) (middle k : ℕ) (after : List ℕ) (place : ℕ) → k < n
+    → Within buf at (whole k) mid middle → Within mid middle (more k) after place → Within buf at (whole (k + 1)) after place
+within_more {whole} {more} g buf at mid middle k after place h p q =
+    within_same buf at (whole k ++ more k) (whole (k + 1)) after place (sym (g.one k h)) (within_then buf at (whole k) (more k) mid after middle place p q)
+
 -- the words that a function of the number gives
 pub words_grow : (f : ℕ → List (List ℕ)) (n : ℕ) → Grows (λ k. spaced_words (joined k f)) (λ k. spaced_words (f k)) n
 unfolding spaced_words

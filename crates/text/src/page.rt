@@ -28,24 +28,26 @@ pub struct Page<'a> {
 }
 
 impl<'a> Page<'a> {
+    // Bytes. The place stays in a variable meanwhile: kept in the page, a text takes half as many instructions more.
+    pub fn put_bytes(&mut self, bytes: &[u8])
+        ensures { Put self.old bytes.now self.new }
+    {
+        let buf = &mut *self.buf;
+        let mut at = self.at;
+        for b in bytes {
+            if at < buf.len() {
+                buf[at] = *b;
+            }
+            at = next_place(at);
+        }
+        self.at = at;
+    }
+
     // One byte.
     pub fn put_byte(&mut self, b: u8)
         ensures { Put self.old (b ∷ []) self.new }
     {
-        let at = self.at;
-        self.at = next_place(at);
-        if at < self.buf.len() {
-            self.buf[at] = b;
-        }
-    }
-
-    // Bytes.
-    pub fn put_bytes(&mut self, bytes: &[u8])
-        ensures { Put self.old bytes.now self.new }
-    {
-        for b in bytes {
-            self.put_byte(*b);
-        }
+        self.put_bytes(&[b]);
     }
 
     // A word, with a space before it.

@@ -7,7 +7,7 @@ use Rattle.words.proofs.ListLaws.{mapped_long}
 use Rattle.scan.specs.Set.{most_reads, most_outputs}
 use Rattle.scan.proofs.ShapeLaws.{counts, lengths}
 use Rattle.text.specs.way.Place.{outputs_bytes, reads_bytes, rests_bytes, constraints_bytes}
-use Rattle.text.proofs.PageLaws.{put_then, put_within}
+use Rattle.text.proofs.PageLaws.{put_then, page_ends}
 use Rattle.text.proofs.TextLaws.{read_names_all, output_names_all, text_told, reads_few}
 use Rattle.text.proofs.printing.put_lines.Goals as goal
 use Rattle.text.proofs.printing.put_lines.Goals.{After-names_of_outputs-output_names, After-names_of_reads-read_names}
@@ -39,7 +39,7 @@ returns c =
     let points = outputs_bytes a.set.outputs a.set.n ++ reads_bytes reads outputs a.set.reads a.set.r in
     let rests = rests_bytes outputs a.set.rest in
     let nevers = constraints_bytes reads outputs a.set.constraints a.set.m in
-    put_within _ c.put_bytes.new.self _ _ _
+    page_ends _ c.put_bytes.new.self _ _ _
     (text_told a.set reads outputs (read_names_all reads a.set.reads (reads_long (goal.at.returns c).After-names_of_reads-read_names) long.0 c.names_of_reads-read_names.ensures)
     (output_names_all outputs a.set.outputs (outputs_long (goal.at.returns c).After-names_of_outputs-output_names) long.1 c.names_of_outputs-output_names.ensures))
     (search rules)
