@@ -28,7 +28,8 @@ pub struct Page<'a> {
 }
 
 impl<'a> Page<'a> {
-    // Bytes. The place stays in a variable meanwhile: kept in the page, a text takes half as many instructions more.
+    // Bytes. The place stays in a variable meanwhile: written to the page at each byte, it slows a text down.
+    #[inline(always)]
     pub fn put_bytes(&mut self, bytes: &[u8])
         ensures { Put self.old bytes.now self.new }
     {
@@ -44,6 +45,7 @@ impl<'a> Page<'a> {
     }
 
     // One byte.
+    #[inline(always)]
     pub fn put_byte(&mut self, b: u8)
         ensures { Put self.old (b ∷ []) self.new }
     {
@@ -51,6 +53,7 @@ impl<'a> Page<'a> {
     }
 
     // A word, with a space before it.
+    #[inline(always)]
     pub fn put_word(&mut self, word: &[u8])
         ensures { Put self.old (spaced_words (word.now ∷ [])) self.new }
     {
@@ -59,6 +62,7 @@ impl<'a> Page<'a> {
     }
 
     // A name.
+    #[inline(always)]
     pub fn put_name(&mut self, name: [u8; NAME_PLACES])
         ensures { Put self.old (spaced_words (name_bytes name ∷ [])) self.new }
     {
@@ -67,6 +71,7 @@ impl<'a> Page<'a> {
     }
 
     // Name k of a list of names; none where the list is shorter.
+    #[inline(always)]
     pub fn put_name_at(&mut self, names: &[[u8; NAME_PLACES]], k: usize)
         ensures { Put self.old (spaced_words (name_bytes (get_or names.now k []) ∷ [])) self.new }
     {
@@ -79,6 +84,7 @@ impl<'a> Page<'a> {
     }
 
     // A number.
+    #[inline(always)]
     pub fn put_number(&mut self, n: u8)
         ensures { Put self.old (spaced_words (decimal n ∷ [])) self.new }
     {

@@ -18,7 +18,7 @@ loop-b-preserved c =
     let page = c.args.self.now in
     let b = get_or c.args.bytes.now l.b-index 0 in
     let stored : c.if-at-buf.buf ≡ set l.buf l.at b = elim c.if-at-buf.branch [
-        then-at-buf w ↦ w.buf-is
+      | then-at-buf w ↦ w.buf-is
       | else-at-buf w ↦ w.buf-is ∙ sym (set_out l.buf l.at b (omega (arith, w.if-at-buf.false)))
     ] in
     within_more (bytes_grow c.args.bytes.now) page.buf.now page.at l.buf l.at l.b-index _ _ c.loop-b-test.true l.invariant (within_one l.buf l.at b _ _ stored c.next_place-at.ensures)

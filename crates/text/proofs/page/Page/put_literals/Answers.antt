@@ -1,4 +1,6 @@
 -- `text::page::Page::put_literals` meets its contract. The loop's invariant: the literals of the first k points are put, and `others` says whether there are any before. Assumes nothing.
+use borrow.Author.Rules.{rules}
+use mathlib.Core.Path.{refl}
 use native.Mathlib.Omega.{arith}
 use lib.ListN.{length}
 use Rattle.words.specs.Loop.{joined}
@@ -6,7 +8,7 @@ use Rattle.words.proofs.LoopTurns.{Grows}
 use Rattle.text.specs.Text.{spaced_words}
 use Rattle.text.specs.way.Place.{literal_at}
 use Rattle.text.proofs.PlaceLaws.{words_grow}
-use Rattle.text.proofs.PageLaws.{put_same_words, put_first, put_more, put_all}
+use Rattle.text.proofs.PageLaws.{put_same_words, put_first, put_more, put_all, put_made, page_ends}
 use Rattle.text.proofs.LiteralLaws.{others_none, others_more, literal_turn}
 use Rattle.text.proofs.page.Page.put_literals.Goals.{Start}
 use Rattle.text.proofs.page.Page.put_literals.Goals as goal
@@ -31,4 +33,7 @@ loop-k-preserved c =
     )
 
 pub returns : goal.returns
-returns c = put_all (grows (goal.at.returns c).Start) _ c.loop-k.self c.loop-k.k (omega (arith, c.loop-k-test.false)) c.loop-k.invariant.0
+returns c =
+    let page = c.args.self.now in
+    put_made _ _ _ refl
+    (page_ends _ c.loop-k.page _ _ _ refl (search rules) (put_all (grows (goal.at.returns c).Start) _ c.loop-k.page c.loop-k.k (omega (arith, c.loop-k-test.false)) c.loop-k.invariant.0))

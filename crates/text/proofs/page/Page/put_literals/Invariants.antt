@@ -9,4 +9,4 @@ use Rattle.text.proofs.page.Page.put_literals.Given as goal
 
 abbrev pub invariant-loop-k : goal.invariant-loop-k
 invariant-loop-k l =
-    Put l.initial.self (spaced_words (joined l.k (literal_at l.begun l.names l.plain l.named l.ranks l.several))) l.self × (l.others ≡ (l.begun || named_below l.named l.k))
+    Put l.initial.page (spaced_words (joined l.k (literal_at l.begun l.names l.plain l.named l.ranks l.several))) l.page × (l.others ≡ (l.begun || named_below l.named l.k))
