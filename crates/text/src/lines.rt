@@ -15,6 +15,7 @@ use words::bit16;
 
 impl<'a> Page<'a> {
     // The line of an output.
+    #[inline(always)]
     fn put_output(&mut self, p: OutputPoint)
         ensures { Put self.old (line_bytes (output_line p)) self.new }
     {
@@ -25,6 +26,7 @@ impl<'a> Page<'a> {
     }
 
     // The lines of the outputs. Each kind has a line of its own, made of other names, so that one function for all would only pass that in.
+    #[inline(always)]
     pub fn put_outputs(&mut self, outputs: [OutputPoint; MOST_OUTPUTS], n: usize)
         requires { n ≤ most_outputs }
         ensures { Put self.old (outputs_bytes outputs n) self.new }
@@ -35,6 +37,7 @@ impl<'a> Page<'a> {
     }
 
     // `past`, the name, `of`, and the name of point k.
+    #[inline(always)]
     fn put_past(&mut self, name: [u8; NAME_PLACES], names: &[[u8; NAME_PLACES]], k: usize)
         ensures { Put self.old (past_bytes name (get_or names.now k [])) self.new }
     {
@@ -45,6 +48,7 @@ impl<'a> Page<'a> {
     }
 
     // The words of a read point.
+    #[inline(always)]
     fn put_kind(&mut self, p: ReadPoint, reads: &[[u8; NAME_PLACES]], outputs: &[[u8; NAME_PLACES]])
         ensures { Put self.old (parted (read_line_by reads.now outputs.now p)) self.new }
     {
@@ -61,6 +65,7 @@ impl<'a> Page<'a> {
     }
 
     // The line of a read point.
+    #[inline(always)]
     fn put_read(&mut self, p: ReadPoint, reads: &[[u8; NAME_PLACES]], outputs: &[[u8; NAME_PLACES]])
         ensures { Put self.old (line_bytes (read_line_by reads.now outputs.now p)) self.new }
     {
@@ -69,6 +74,7 @@ impl<'a> Page<'a> {
     }
 
     // The lines of the read points.
+    #[inline(always)]
     pub fn put_reads(
         &mut self,
         points: [ReadPoint; MOST_READS],
@@ -85,6 +91,7 @@ impl<'a> Page<'a> {
     }
 
     // The line of output k, if it is on at rest.
+    #[inline(always)]
     fn put_rest(&mut self, on: bool, outputs: &[[u8; NAME_PLACES]], k: usize)
         ensures { Put self.old (lines_text (rest_if on (name_bytes (get_or outputs.now k [])))) self.new }
     {
@@ -96,6 +103,7 @@ impl<'a> Page<'a> {
     }
 
     // The lines of the outputs whose bits are set in the rest word.
+    #[inline(always)]
     pub fn put_rests(&mut self, rest: u16, outputs: &[[u8; NAME_PLACES]])
         ensures { Put self.old (rests_bytes outputs.now rest) self.new }
     {
@@ -105,6 +113,7 @@ impl<'a> Page<'a> {
     }
 
     // The line of a constraint.
+    #[inline(always)]
     fn put_constraint(
         &mut self,
         c: Constraint,
@@ -121,6 +130,7 @@ impl<'a> Page<'a> {
     }
 
     // The lines of the constraints.
+    #[inline(always)]
     pub fn put_constraints(
         &mut self,
         constraints: [Constraint; MOST_CONSTRAINTS],

@@ -90,7 +90,8 @@ impl<'a> Page<'a> {
         }
     }
 
-    // The literals of the points that are named, by number. They go onto a page of the function's own, and what puts them is inlined: without both, a text takes 11 to 15 % more instructions.
+    // The literals of the points that are named, by number. They go onto a page of the function's own, so that its place stays in a register.
+    #[inline(always)]
     fn put_literals(
         &mut self,
         begun: bool,
@@ -116,6 +117,7 @@ impl<'a> Page<'a> {
     }
 
     // The literals of a constraint's read points.
+    #[inline(always)]
     pub fn put_read_literals(&mut self, c: Constraint, names: &[[u8; NAME_PLACES]])
         ensures { Put self.old (spaced_words (read_literals_by names.now c)) self.new }
     {
@@ -125,6 +127,7 @@ impl<'a> Page<'a> {
     }
 
     // The literals of a constraint's outputs, behind those of its read points.
+    #[inline(always)]
     pub fn put_output_literals(&mut self, c: Constraint, names: &[[u8; NAME_PLACES]])
         requires { named_reads c < 2 ^ most_reads }
         ensures { Put self.old (spaced_words (output_literals_by names.now c)) self.new }
