@@ -1,4 +1,5 @@
 pub mod PlaceLaws
+pub mod PageLaws
 pub mod LiteralLaws
 pub mod LinesLaws
 pub mod TextLaws

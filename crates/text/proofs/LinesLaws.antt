@@ -2,21 +2,14 @@
 -- Assumes nothing.
 use mathlib.Core.Path.{◌≡◌, sym, ap, ◌∙◌}
 use mathlib.Core.Bool.{Bool, true, false}
-use mathlib.Core.List.{List, [], ◌∷◌, ◌++◌, append-nil}
+use mathlib.Core.List.{List, [], ◌∷◌, append-nil}
 use Prim.Native.Nat.{ℕ}
 use lib.ListN.{get_or}
 use Rattle.words.specs.Word.{bit}
 use Rattle.scan.specs.Names.{name_bytes}
 use Rattle.text.specs.Grammar.{rest_word}
-use Rattle.text.specs.Text.{spaced_words, lines_text}
-use Rattle.text.specs.way.Place.{Within, line_bytes, rest_if, rest_line_by}
-use Rattle.text.proofs.PlaceLaws.{within_then}
-
--- the first word, the words behind it, and the line's end
-pub line_put : (buf : List ℕ) (at : ℕ) (first : List ℕ) (words : List (List ℕ)) (one two after : List ℕ) (place-one place-two place : ℕ) → Within buf at first one place-one
-    → Within one place-one (spaced_words words) two place-two → Within two place-two (0x0A ∷ []) after place → Within buf at (line_bytes (first ∷ words)) after place
-line_put buf at first words one two after place-one place-two place p q e =
-    within_then buf at (first ++ spaced_words words) (0x0A ∷ []) two after place-two place (within_then buf at first (spaced_words words) one two place-one place-two p q) e
+use Rattle.text.specs.Text.{lines_text}
+use Rattle.text.specs.way.Place.{line_bytes, rest_if, rest_line_by}
 
 -- the line of an output that is on at rest
 pub rest_made : (on : Bool) (name : List ℕ) → on ≡ true → line_bytes (rest_word ∷ name ∷ []) ≡ lines_text (rest_if on name)

@@ -27,12 +27,6 @@ unfolding place_after put_within
 put_append buf at [] y = refl
 put_append buf at (b ∷ x) y = put_append (set buf at b) (next at) x y
 
--- the buffer keeps its length
-pub put_kept : (buf : List ℕ) (at : ℕ) (x : List ℕ) → length (put_within buf at x) ≡ length buf
-unfolding put_within
-put_kept buf at [] = refl
-put_kept buf at (b ∷ x) = put_kept (set buf at b) (next at) x ∙ length-set buf at b
-
 -- no bytes
 pub within_none : (buf : List ℕ) (at : ℕ) → Within buf at [] buf at
 unfolding place_after put_within
@@ -50,9 +44,6 @@ within_then buf at x y mid after middle place p q = (
   q.0 ∙ ap₂ (λ (l : List ℕ) (k : ℕ). put_within l k y) p.0 p.1 ∙ sym (put_append buf at x y),
   q.1 ∙ ap (λ (k : ℕ). place_after k y) p.1 ∙ sym (after_append at x y),
 )
-
-pub within_kept : (buf : List ℕ) (at : ℕ) (x after : List ℕ) (place : ℕ) → Within buf at x after place → length after ≡ length buf
-within_kept buf at x after place p = ap length p.0 ∙ put_kept buf at x
 
 -- the same bytes
 pub within_same : (buf : List ℕ) (at : ℕ) (x y after : List ℕ) (place : ℕ) → x ≡ y → Within buf at x after place → Within buf at y after place
@@ -82,10 +73,6 @@ unfolding spaced_words
 word_put buf at w mid after middle place p q =
     within_same buf at (0x20 ∷ w) ((0x20 ∷ w) ++ []) after place (sym (append-nil (0x20 ∷ w))) (within_then buf at (0x20 ∷ []) w mid after middle place p q)
 
--- the same words
-pub words_same : (buf : List ℕ) (at : ℕ) (x y : List (List ℕ)) (after : List ℕ) (place : ℕ) → x ≡ y → Within buf at (spaced_words x) after place → Within buf at (spaced_words y) after place
-words_same buf at x y after place e p = within_same buf at (spaced_words x) (spaced_words y) after place (ap spaced_words e) p
-
 -- ---- bytes that have their places
 
 next_is : (at : ℕ) → at < text_end → next at ≡ at + 1
@@ -112,32 +99,17 @@ put_is buf at (b ∷ x) h g =
     (drop-set-lt (at + 1 + length x) buf at b (omega arith) ∙ ap (λ (k : ℕ). drop k buf) e)
     ∙ append_assoc (take at buf) (b ∷ []) (x ++ drop (at + suc (length x)) buf)
 
--- ---- loops that put one part behind the other
-
--- the invariant of such a loop: the first k parts are put
-abbrev pub Goes : (ℕ → List ℕ) → ℕ → List ℕ → ℕ → List ℕ → ℕ → ℕ → Type 0
-Goes whole n buf at after place k = (k ≤ n) × Within buf at (whole k) after place
-
-module _ {whole more : ℕ → List ℕ} {n : ℕ} (g : Grows whole more n) (buf : List ℕ) (at : ℕ) where
-  pub goes_none : Goes whole n buf at buf at 0
-  goes_none = (omega arith, within_same buf at [] (whole 0) buf at (sym g.none) (within_none buf at))
-
-  pub goes_one : (mid : List ℕ) (middle k : ℕ) (after : List ℕ) (place : ℕ) → Goes whole n buf at mid middle k → k < n
-      → Within mid middle (more k) after place → Goes whole n buf at after place (k + 1)
-  goes_one mid middle k after place i h p = (
-    omega arith,
-    within_same buf at (whole k ++ more k) (whole (k + 1)) after place (sym (g.one k h)) (within_then buf at (whole k) (more k) mid after middle place i.1 p),
-  )
-
-  pub goes_all : (after : List ℕ) (place k : ℕ) → Goes whole n buf at after place k → n ≤ k → Within buf at (whole n) after place
-  goes_all after place k i h = let e : k ≡ n = omega arith in within_same buf at (whole k) (whole n) after place (ap whole e) i.1
-
-  pub goes_kept : (after : List ℕ) (place k : ℕ) → Goes whole n buf at after place k → length after ≡ length buf
-  goes_kept after place k i = within_kept buf at (whole k) after place i.1
+-- ---- what loops put, one part behind the other
 
 -- the bytes of a list, one behind the other
 pub bytes_grow : (bytes : List ℕ) → Grows (λ k. take k bytes) (λ k. get_or bytes k 0 ∷ []) (length bytes)
 bytes_grow bytes = record { none = refl; one = λ k h. ap (λ (j : ℕ). take j bytes) (add-one k) ∙ take-suc bytes k 0 h }
+
+-- a part behind the first k
+pub within_more : {whole more : ℕ → List ℕ} {n : ℕ} (g : Grows whole more n) (buf : List ℕ) (at : ℕ) (mid : List ℕ) (middle k : ℕ) (after : List ℕ) (place : ℕ) → k < n
+    → Within buf at (whole k) mid middle → Within mid middle (more k) after place → Within buf at (whole (k + 1)) after place
+within_more {whole} {more} g buf at mid middle k after place h p q =
+    within_same buf at (whole k ++ more k) (whole (k + 1)) after place (sym (g.one k h)) (within_then buf at (whole k) (more k) mid after middle place p q)
 
 -- the words that a function of the number gives
 pub words_grow : (f : ℕ → List (List ℕ)) (n : ℕ) → Grows (λ k. spaced_words (joined k f)) (λ k. spaced_words (f k)) n

@@ -1,7 +1,7 @@
 // The text of a set: one thing on a line, names to the byte.
 #![tactic(auto)]
 
-mod place; // bytes and words into a buffer, as far as it goes
+mod page; // bytes and words onto a lent buffer, as far as it goes
 mod literal; // the literals of a constraint
 mod lines; // a line for each point, output at rest and constraint
 mod printing; // the whole text into a lent buffer

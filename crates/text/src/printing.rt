@@ -4,8 +4,7 @@ ghost use Rattle.scan.specs.Shape.{well_formed};
 ghost use Rattle.text.specs.Text.{text_of, text_answer, buffer_after};
 ghost use Rattle.text.specs.way.Place.{Within};
 
-use super::lines::{put_constraints, put_outputs, put_reads, put_rests};
-use super::place::put_bytes;
+use super::page::Page;
 use scan::Set;
 use shape::{PutError, names_of_outputs, names_of_reads, well_formed};
 
@@ -44,9 +43,11 @@ fn put_lines(buf: &mut [u8], set: Set) -> usize
     let constraints = set.constraints;
     let read_names = names_of_reads(points);
     let output_names = names_of_outputs(outputs);
-    let first = put_outputs(buf, 0, outputs, set.n);
-    let next = put_reads(buf, first, points, set.r, &read_names, &output_names);
-    let then = put_rests(buf, next, set.rest, &output_names);
-    let last = put_constraints(buf, then, constraints, set.m, &read_names, &output_names);
-    put_bytes(buf, last, b"end\n")
+    let mut page = Page { buf, at: 0 };
+    page.put_outputs(outputs, set.n);
+    page.put_reads(points, set.r, &read_names, &output_names);
+    page.put_rests(set.rest, &output_names);
+    page.put_constraints(constraints, set.m, &read_names, &output_names);
+    page.put_bytes(b"end\n");
+    page.at
 }
