@@ -1,10 +1,10 @@
 // Loading: the counts, then read points, outputs, the rest word, constraints and the end, each field from the front of what is left.
-ghost use Rattle.std.specs.Prelude.{◌≡◌, List, ℕ, ◌+◌, ◌≤◌, length, replicate, IfOk};
+ghost use Rattle.std.specs.Prelude.{◌≡◌, List, ℕ, ◌+◌, ◌≤◌, length, replicate, IfOk, Err};
 ghost use Rattle.scan.specs.declared.set.ReadPoint.{ReadPoint};
 ghost use Rattle.scan.specs.declared.set.OutputPoint.{OutputPoint};
 ghost use Rattle.scan.specs.Set.{most_reads, most_outputs, zero_name, with_reads, with_outputs};
 ghost use Rattle.shape.specs.way.Names.{ReadNames};
-ghost use Rattle.loader.specs.Load.{of_counts, counts_at, reads_from, outputs_from, after_rest, answered, load_from, load_of};
+ghost use Rattle.loader.specs.Load.{of_counts, counts_at, reads_from, outputs_from, after_rest, after_counts, answered, load_of};
 ghost use Rattle.loader.specs.way.Load.{reached_by, end_told, end_place, rested_set, whole_set, set_told};
 
 use super::rest::rest_at;
@@ -150,11 +150,10 @@ fn constraints_at(s: &[u8], at: usize, counts: Counts) -> Result<(Constraints, u
     }
 }
 
-// The set that the file holds.
-fn set_of(file: &[u8]) -> Result<Set, Refusal>
-    ensures { set_told result ≡ answered (load_from file.now) }
+// The set that the file holds behind its counts.
+fn set_behind(file: &[u8], at: usize, counts: Counts) -> Result<Set, Refusal>
+    ensures { set_told result ≡ answered (after_counts file.now at (of_counts counts.r counts.n)) }
 {
-    let (counts, at) = counts_at(file)?;
     let mut names = [[0u8; NAME_PLACES]; MOST_READS];
     let (reads, at) = reads_at(file, at, counts, &mut names)?;
     let (outputs, at) = outputs_at(file, at, &names, counts)?;
@@ -171,21 +170,39 @@ fn set_of(file: &[u8]) -> Result<Set, Refusal>
     })
 }
 
-// The set that the file holds; or the refusal, beside a set with every field zero.
-pub fn load(file: &[u8]) -> Loaded
-    ensures { result ≡ load_of file.now }
+// What is answered of a refusal: it is told by its number, beside a set with every field zero.
+fn refused(refusal: Refusal) -> Loaded
+    ensures { result ≡ set_told (Err refusal) }
 {
-    match set_of(file) {
+    Loaded {
+        answer: LoadAnswer::Refused {
+            number: refusal.fault.number(),
+            offset: refusal.offset,
+        },
+        set: zero_set(),
+    }
+}
+
+// What is answered of a file with these counts. Not inlined, for speed: a call clears the places of the set and its parts at entry, and a file that is refused at its counts needs none of them.
+#[inline(never)]
+fn load_behind(file: &[u8], at: usize, counts: Counts) -> Loaded
+    ensures { result ≡ answered (after_counts file.now at (of_counts counts.r counts.n)) }
+{
+    match set_behind(file, at, counts) {
         Ok(set) => Loaded {
             answer: LoadAnswer::Loaded,
             set,
         },
-        Err(refusal) => Loaded {
-            answer: LoadAnswer::Refused {
-                number: refusal.fault.number(),
-                offset: refusal.offset,
-            },
-            set: zero_set(),
-        },
+        Err(refusal) => refused(refusal),
+    }
+}
+
+// The set that the file holds; or the refusal, beside a set with every field zero.
+pub fn load(file: &[u8]) -> Loaded
+    ensures { result ≡ load_of file.now }
+{
+    match counts_at(file) {
+        Ok((counts, at)) => load_behind(file, at, counts),
+        Err(refusal) => refused(refusal),
     }
 }
