@@ -1,11 +1,13 @@
 // Loading: the counts, then read points, outputs, the rest word, constraints and the end, each field from the front of what is left.
-ghost use Rattle.std.specs.Prelude.{◌≡◌, List, ℕ, ◌+◌, ◌≤◌, length, replicate, IfOk, Err};
+ghost use Rattle.std.specs.Prelude.{◌≡◌, List, ℕ, ◌+◌, ◌≤◌, length, replicate, IfOk};
+ghost use Rattle.header.specs.Fault.{number};
+ghost use Rattle.loader.specs.declared.loader.LoadAnswer.TheVariants.{Refused as WasRefused};
 ghost use Rattle.scan.specs.declared.set.ReadPoint.{ReadPoint};
 ghost use Rattle.scan.specs.declared.set.OutputPoint.{OutputPoint};
-ghost use Rattle.scan.specs.Set.{most_reads, most_outputs, zero_name, with_reads, with_outputs};
+ghost use Rattle.scan.specs.Set.{most_reads, most_outputs, zero_name, zero_set, with_reads, with_outputs};
 ghost use Rattle.shape.specs.way.Names.{ReadNames};
 ghost use Rattle.loader.specs.Load.{of_counts, counts_at, reads_from, outputs_from, after_rest, after_counts, answered, load_of};
-ghost use Rattle.loader.specs.way.Load.{reached_by, end_told, end_place, rested_set, whole_set, set_told};
+ghost use Rattle.loader.specs.way.Load.{reached_by, end_told, end_place, rested_set, whole_set, loaded_with, loaded_told};
 
 use super::rest::rest_at;
 use super::step::{output_at, read_at};
@@ -150,16 +152,17 @@ fn constraints_at(s: &[u8], at: usize, counts: Counts) -> Result<(Constraints, u
     }
 }
 
-// The set that the file holds behind its counts.
-fn set_behind(file: &[u8], at: usize, counts: Counts) -> Result<Set, Refusal>
-    ensures { set_told result ≡ answered (after_counts file.now at (of_counts counts.r counts.n)) }
+// The set that the file holds behind its counts, put into the zero set that is lent, and the place behind its end; a refusal leaves the zero set.
+fn set_behind(file: &[u8], at: usize, counts: Counts, set: &mut Set) -> Result<usize, Refusal>
+    requires { set.old ≡ zero_set }
+    ensures { loaded_told result set.new ≡ answered (after_counts file.now at (of_counts counts.r counts.n)) }
 {
     let mut names = [[0u8; NAME_PLACES]; MOST_READS];
     let (reads, at) = reads_at(file, at, counts, &mut names)?;
     let (outputs, at) = outputs_at(file, at, &names, counts)?;
     let (rest, at) = rest_at(file, at, counts.n)?;
-    let (Constraints { m, list }, _) = constraints_at(file, at, counts)?;
-    Ok(Set {
+    let (Constraints { m, list }, end) = constraints_at(file, at, counts)?;
+    *set = Set {
         r: counts.r,
         n: counts.n,
         m,
@@ -167,42 +170,53 @@ fn set_behind(file: &[u8], at: usize, counts: Counts) -> Result<Set, Refusal>
         reads,
         outputs,
         constraints: list,
-    })
+    };
+    Ok(end)
 }
 
-// What is answered of a refusal: it is told by its number, beside a set with every field zero.
-fn refused(refusal: Refusal) -> Loaded
-    ensures { result ≡ set_told (Err refusal) }
+// A refusal as it is answered: by its number.
+fn answer_of(refusal: Refusal) -> LoadAnswer
+    ensures { result ≡ WasRefused (number refusal.fault) refusal.offset }
 {
-    Loaded {
-        answer: LoadAnswer::Refused {
-            number: refusal.fault.number(),
-            offset: refusal.offset,
-        },
-        set: zero_set(),
+    LoadAnswer::Refused {
+        number: refusal.fault.number(),
+        offset: refusal.offset,
     }
 }
 
-// What is answered of a file with these counts. Not inlined, for speed: a call clears the places of the set and its parts at entry, and a file that is refused at its counts needs none of them.
+// What is answered of a file with these counts, whose set is put into the zero set that is lent.
+fn load_into(file: &[u8], at: usize, counts: Counts, set: &mut Set) -> LoadAnswer
+    requires { set.old ≡ zero_set }
+    ensures { loaded_with result set.new ≡ answered (after_counts file.now at (of_counts counts.r counts.n)) }
+{
+    match set_behind(file, at, counts, set) {
+        Ok(_) => LoadAnswer::Loaded,
+        Err(refusal) => answer_of(refusal),
+    }
+}
+
+// The same, beside the set. Not inlined, for speed: a call clears the places of the set and its parts at entry, and a file that is refused at its counts needs none of them.
 #[inline(never)]
 fn load_behind(file: &[u8], at: usize, counts: Counts) -> Loaded
     ensures { result ≡ answered (after_counts file.now at (of_counts counts.r counts.n)) }
 {
-    match set_behind(file, at, counts) {
-        Ok(set) => Loaded {
-            answer: LoadAnswer::Loaded,
-            set,
-        },
-        Err(refusal) => refused(refusal),
-    }
+    let mut set = zero_set();
+    let answer = load_into(file, at, counts, &mut set);
+    Loaded { answer, set }
 }
 
 // The set that the file holds; or the refusal, beside a set with every field zero.
 pub fn load(file: &[u8]) -> Loaded
     ensures { result ≡ load_of file.now }
 {
-    match counts_at(file) {
-        Ok((counts, at)) => load_behind(file, at, counts),
-        Err(refusal) => refused(refusal),
-    }
+    let (counts, at) = match counts_at(file) {
+        Ok(counted) => counted,
+        Err(refusal) => {
+            return Loaded {
+                answer: answer_of(refusal),
+                set: zero_set(),
+            };
+        }
+    };
+    load_behind(file, at, counts)
 }

@@ -6,13 +6,14 @@ use Rattle.scan.specs.declared.set.ReadPoint.{ReadPoint}
 use Rattle.scan.specs.declared.set.OutputPoint.{OutputPoint}
 use Rattle.scan.specs.declared.set.Constraint.{Constraint}
 use Rattle.scan.specs.declared.set.Set.{Set}
-use Rattle.scan.specs.Set.{zero_set, with_counts, with_reads, with_outputs, with_constraints, with_rest}
+use Rattle.scan.specs.Set.{with_counts, with_reads, with_outputs, with_constraints, with_rest}
 use Rattle.scan.specs.Shape.{is_sensor}
 use Rattle.header.specs.declared.numbers.Fault.{Fault}
 use Rattle.header.specs.declared.numbers.Refusal.{Refusal}
 use Rattle.header.specs.Fault.{number, Taken, Refused as Denied, Good}
 use Rattle.header.specs.Header.{Header, Refused as Stopped, Field, header_of, body_of}
 use Rattle.loader.specs.declared.loader.Loaded.{Loaded}
+use Rattle.loader.specs.declared.loader.LoadAnswer.{LoadAnswer}
 use Rattle.loader.specs.declared.loader.LoadAnswer.TheVariants.{Loaded as WasLoaded, Refused as WasRefused}
 use Rattle.loader.specs.Load.{Progress, At, Refused, Loading, NameField, ReadField, refusal, going_on, of_counts, rest_word, rest_good}
 
@@ -47,10 +48,14 @@ abbrev pub end_told : Result ℕ Refusal → Progress
 end_told (Ok at) = At at
 end_told (Err r) = Refused (number r.fault) r.offset
 
--- of a whole file
-abbrev pub set_told : Result Set Refusal → Loaded
-set_told (Ok set) = record { answer = WasLoaded; set = set }
-set_told (Err r) = record { answer = WasRefused (number r.fault) r.offset; set = zero_set }
+-- an answer, beside the set that was lent
+abbrev pub loaded_with : LoadAnswer → Set → Loaded
+loaded_with answer set = record { answer = answer; set = set }
+
+-- of a whole file, beside the set that was lent
+abbrev pub loaded_told : Result ℕ Refusal → Set → Loaded
+loaded_told (Ok end) set = loaded_with WasLoaded set
+loaded_told (Err r) set = loaded_with (WasRefused (number r.fault) r.offset) set
 
 -- ---- what the definitions give, without what stands beside a refusal
 

@@ -1,9 +1,5 @@
--- `loader::loader::load_behind` meets its contract: by what the file holds behind its counts. Assumes nothing.
-use mathlib.Core.Path.{◌∙◌}
+-- `loader::loader::load_behind` meets its contract. Assumes nothing.
 use Rattle.loader.proofs.loader.load_behind.Goals as goal
 
-pub returns-in-Ok : goal.returns-in-Ok
-returns-in-Ok c = c.in-Ok.ensures
-
-pub returns-in-Err : goal.returns-in-Err
-returns-in-Err c = c.refused.ensures ∙ c.in-Err.ensures
+pub returns : goal.returns
+returns c = c.load_into-answer.ensures
